@@ -1,0 +1,5 @@
+pub mod Padding
+pub mod Paths
+pub mod Smalls
+pub mod Records
+pub mod Streams

@@ -1,0 +1,27 @@
+use crate::{Fault, NoMemory, Rec};
+
+/// What becomes of one record.
+#[derive(Debug, Drop)]
+pub enum Answer {
+    /// The record that it gives.
+    Rec(Rec),
+    /// It gives none, and ends its stream.
+    Fault(Fault),
+    /// Memory ran out before it was known.
+    NoMemory,
+}
+
+/// Why a computation over a record stops without a result.
+#[derive(Clone, Copy, Debug)]
+pub enum Halt {
+    /// The computation has no result.
+    Fault(Fault),
+    /// Memory ran out before it was known.
+    NoMemory,
+}
+
+impl From<NoMemory> for Halt {
+    fn from(_: NoMemory) -> Self {
+        Halt::NoMemory
+    }
+}

@@ -1,0 +1,82 @@
+ghost use Rattle.std.specs.Prelude.{◌≡◌, ◌+◌, ◌<◌, ◌≤◌, [], ◌∷◌, ◌++◌, IfOk, OnOk, OnErr};
+
+use crate::NoMemory;
+use std::alloc::Global;
+use std::marker::Model;
+
+/// A record: a list of numbers. Contracts see it with its spare room, how many more numbers `put` can append.
+#[derive(Debug, Drop)]
+pub struct Rec {
+    numbers: Vec<i64>,
+    spare: usize,
+}
+
+impl Model for Rec {
+    ghost use Rattle.std.specs.Prelude.{◌+◌, ◌≤◌};
+    ghost use Rattle.std.specs.Vec.{vec_len, vec_capacity};
+    ghost use Rattle.msl_base.specs.Records.{Kept};
+
+    ghost Value = { Kept };
+
+    ghost view = { λ r. record { numbers = r.numbers.items; spare = r.spare } };
+
+    ghost invariant = { λ r. vec_len r.numbers + r.spare ≤ vec_capacity r.numbers };
+}
+
+impl Rec {
+    /// The empty record. Takes no memory.
+    pub fn new(alloc: Global) -> Rec
+        ensures { result.numbers ≡ [] }
+    {
+        Rec {
+            numbers: Vec::new(alloc),
+            spare: 0,
+        }
+    }
+
+    /// The record of these numbers. It fails for want of memory alone.
+    pub fn of_slice(alloc: Global, xs: &[i64]) -> Result<Rec, NoMemory>
+        ensures { IfOk result (λ rec. rec.numbers ≡ xs.now) }
+    {
+        let numbers = Vec::from_slice(alloc, xs)?;
+        Ok(Rec { numbers, spare: 0 })
+    }
+
+    /// Appends a number, or leaves the numbers where memory runs out. The spare room is open afterwards.
+    pub fn push(&mut self, x: i64) -> Result<(), NoMemory>
+        ensures ok { OnOk result (self.new.numbers ≡ self.old.numbers ++ x ∷ []) }
+        ensures err { OnErr result (self.new.numbers ≡ self.old.numbers) }
+    {
+        self.spare = 0;
+        self.numbers.push(x)?;
+        Ok(())
+    }
+
+    /// Makes room for `n` more numbers. Where memory runs out, the spare room is open afterwards.
+    pub fn reserve(&mut self, n: usize) -> Result<(), NoMemory>
+        ensures same { self.new.numbers ≡ self.old.numbers }
+        ensures room { OnOk result (n ≤ self.new.spare) }
+    {
+        self.spare = 0;
+        self.numbers.reserve(n)?;
+        self.spare = n;
+        Ok(())
+    }
+
+    /// Appends a number to the spare room. Takes no memory.
+    pub fn put(&mut self, x: i64)
+        requires { 1 ≤ self.old.spare }
+        ensures put { self.new.numbers ≡ self.old.numbers ++ x ∷ [] }
+        ensures room { self.new.spare + 1 ≡ self.old.spare }
+    {
+        self.spare -= 1;
+        self.numbers.push(x).unwrap();
+    }
+
+    /// The numbers.
+    pub fn as_slice(&self) -> &[i64]
+        ensures { result.now ≡ self.now.numbers }
+    {
+        self.numbers.as_slice()
+    }
+}

@@ -1,0 +1,48 @@
+ghost use Rattle.std.specs.Prelude.{◌≡◌, ◌≤◌, length};
+
+use std::marker::Model;
+
+/// A list of at most 16 numbers that takes no memory of its own.
+#[derive(Clone, Copy, Debug)]
+pub struct Small {
+    numbers: [i64; 16],
+    len: usize,
+}
+
+impl Model for Small {
+    ghost use Rattle.std.specs.Prelude.{ℤ, List, take, length};
+    ghost use Rattle.msl_base.specs.Smalls.{padded, IsKept, unpadded};
+
+    ghost Value = { List ℤ };
+
+    ghost view = { λ s. take s.len s.numbers };
+
+    ghost invariant = { λ s. IsKept s.len s.numbers };
+
+    ghost inverse = { λ xs. record { numbers = padded xs; len = length xs } };
+
+    ghost inverse_ok = { λ s h. unpadded s.len s.numbers h };
+}
+
+impl Small {
+    /// The same list.
+    pub fn of(xs: &[i64]) -> Small
+        requires { length xs.now ≤ 16 }
+        ensures { result ≡ xs.now }
+    {
+        let mut numbers = [0; 16];
+        numbers[..xs.len()].copy_from_slice(xs);
+        Small {
+            numbers,
+            len: xs.len(),
+        }
+    }
+
+    /// The list, which has at most 16 numbers.
+    pub fn as_slice(&self) -> &[i64]
+        ensures numbers { result.now ≡ self.now }
+        ensures short { length self.now ≤ 16 }
+    {
+        &self.numbers[..self.len]
+    }
+}

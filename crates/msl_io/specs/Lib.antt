@@ -1,0 +1,9 @@
+pub mod Causes
+pub mod Fetching
+pub mod Known
+pub mod Lines
+pub mod Memory
+pub mod Reader
+pub mod Taking
+pub mod Text
+pub mod Writing

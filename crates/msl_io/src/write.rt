@@ -1,0 +1,81 @@
+ghost use Rattle.std.specs.Prelude.{OnOk, OnErr, ◌≡◌, ◌++◌, [], ◌∷◌, ◌+◌, ◌≤◌, length};
+ghost use Rattle.std.specs.Io.KnownBytes.{Appends};
+ghost use Rattle.msl_io.specs.Causes.{HasCause};
+ghost use Rattle.msl_io.specs.Text.{text_of, AppendsPart};
+ghost use Rattle.msl_io.specs.Writing.{others, HandsOn};
+
+use crate::Sink;
+use crate::piece::{self, Piece};
+
+/// A sink failed, and counted it, before all was written.
+#[derive(Clone, Copy, Debug, PartialEq, Eq)]
+pub struct WriteFault;
+
+/// Writes a record's text: the numbers in decimal, one space between two, and LF. It takes no memory. At a fault the
+/// sink took a beginning of the text, and not all of it.
+pub fn write_rec<K: Sink>(sink: &mut K, xs: &[i64]) -> Result<(), WriteFault>
+    ensures ok { OnOk result (Appends (K.held sink.old) (K.held sink.new) (text_of xs.now)) }
+    ensures err { OnErr result (AppendsPart (K.held sink.old) (K.held sink.new) (text_of xs.now)) }
+    ensures cause { HasCause (K.faults sink.old) (K.faults sink.new) result }
+{
+    match xs {
+        [] => write_text(sink, b"\n"),
+        [x, others @ ..] => {
+            let mut piece = Piece::new();
+            piece.push_number(x);
+            write_others(sink, piece, others)
+        }
+    }
+}
+
+// Writes a piece, a space before each number, and LF after the last.
+fn write_others<K: Sink>(sink: &mut K, first: Piece, xs: &[i64]) -> Result<(), WriteFault>
+    requires { length first ≤ 20 }
+    ensures ok { OnOk result (Appends (K.held sink.old) (K.held sink.new) (first ++ others xs.now)) }
+    ensures err { OnErr result (AppendsPart (K.held sink.old) (K.held sink.new) (first ++ others xs.now)) }
+    ensures cause { HasCause (K.faults sink.old) (K.faults sink.new) result }
+{
+    let mut piece = first;
+    for x in xs {
+        match make_room(sink, &mut piece) {
+            Ok(()) => {}
+            Err(fault) => return Err(fault),
+        }
+        piece.push(b' ');
+        piece.push_number(x);
+    }
+    piece.push(b'\n');
+    write_text(sink, piece.as_slice())
+}
+
+// Writes the piece where it has no room for one more number.
+fn make_room<K: Sink>(sink: &mut K, piece: &mut Piece) -> Result<(), WriteFault>
+    requires { length piece.old + 1 ≤ 320 }
+    ensures ok { OnOk result (HandsOn (K.held sink.old) (K.held sink.new) piece.old piece.new) }
+    ensures room { OnOk result (length piece.new + 22 ≤ 320) }
+    ensures err { OnErr result (AppendsPart (K.held sink.old) (K.held sink.new) piece.old) }
+    ensures cause { HasCause (K.faults sink.old) (K.faults sink.new) result }
+{
+    if piece.as_slice().len() + 22 <= piece::SIZE {
+        return Ok(());
+    }
+    write_text(sink, piece.as_slice())?;
+    piece.clear();
+    Ok(())
+}
+
+/// Writes all the bytes. It takes no memory. At a fault the sink took a beginning of them, and not all.
+pub fn write_text<K: Sink>(sink: &mut K, bytes: &[u8]) -> Result<(), WriteFault>
+    ensures ok { OnOk result (Appends (K.held sink.old) (K.held sink.new) bytes.now) }
+    ensures err { OnErr result (AppendsPart (K.held sink.old) (K.held sink.new) bytes.now) }
+    ensures cause { HasCause (K.faults sink.old) (K.faults sink.new) result }
+{
+    let mut rest = bytes;
+    while !rest.is_empty() {
+        match sink.write(rest) {
+            Ok(n) => rest = &rest[n..],
+            Err(_) => return Err(WriteFault),
+        }
+    }
+    Ok(())
+}

@@ -1,0 +1,9 @@
+//! Worked examples of the whole program over objects in memory: what is written, the status and the message.
+#![tactic(auto)]
+
+#[cfg(test)]
+mod faults;
+#[cfg(test)]
+mod fixture;
+#[cfg(test)]
+mod rows;

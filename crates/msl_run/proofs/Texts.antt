@@ -1,0 +1,34 @@
+-- The texts of messages and names.
+use Rattle.std.proofs.Common.{arith, ◌≡◌, ℕ, ◌+◌, ◌-◌, ◌<◌, ◌≤◌, List, [], ◌∷◌, ◌++◌, length, take, drop, get_or, map, true, ap, sym, refl, ◌∙◌, append_assoc, append-nil, decimal}
+use Rattle.std.proofs.Math.Seq.{take-length, drop-cons}
+use Rattle.std.specs.List.{list_all, join_with_byte}
+use Rattle.std.specs.Str.{IsAscii, IsUtf8}
+use Rattle.std.proofs.lemmas.Str.{IsUtf8-from_ascii}
+use Rattle.std.proofs.lemmas.Str.Ascii.{IsAscii-nil, IsAscii-cons}
+use Rattle.std.proofs.lemmas.Bool.Decides.{nat_tests}
+use Rattle.msl_run.specs.FirstForm.{is_letter, is_name}
+use Rattle.msl_run.specs.Messages.{dotted, path_text}
+
+ascii_letters : (w : List ℕ) → list_all is_letter w ≡ true → IsAscii w
+ascii_letters [] h = IsAscii-nil
+ascii_letters (c ∷ w) h =
+    let letter : c < 128 = grind (arith, nat_tests) in
+    let rest : list_all is_letter w ≡ true = grind (arith, nat_tests) in
+    IsAscii-cons c w letter (ascii_letters w rest)
+
+pub name_is_text : (w : List ℕ) → is_name w ≡ true → IsUtf8 w
+name_is_text w h = let all : list_all is_letter w ≡ true = grind (arith, nat_tests) in IsUtf8-from_ascii w (ascii_letters w all)
+
+path_text-cons : (child : ℕ) (steps : List ℕ) → path_text (child ∷ steps) ≡ decimal child ++ dotted steps
+path_text-cons child [] = sym (append-nil (decimal child))
+path_text-cons child (next ∷ steps) = ap (λ (t : List ℕ). decimal child ++ 46 ∷ t) (path_text-cons next steps)
+
+pub path_text-split : (steps : List ℕ) → 1 ≤ length steps → path_text steps ≡ decimal (get_or steps 0 0) ++ dotted (take (length steps - 1) (drop 1 steps))
+path_text-split [] some = absurd (omega arith)
+path_text-split (child ∷ steps) some =
+    let size : length steps ≡ length (child ∷ steps) - 1 = omega arith in
+    path_text-cons child steps ∙ ap (λ (t : List ℕ). decimal child ++ dotted t) (sym (take-length steps) ∙ ap (λ (k : ℕ). take k steps) size)
+
+-- what a message says of a record's shape, piece by piece
+pub pieces : (m p d c a g b w e n : List ℕ) → ((((((((m ++ p) ++ d) ++ c) ++ a) ++ g) ++ b) ++ w) ++ e) ++ n ≡ m ++ ((p ++ (d ++ (c ++ (a ++ (g ++ (b ++ (w ++ e))))))) ++ n)
+pieces m p d c a g b w e n = simp append_assoc

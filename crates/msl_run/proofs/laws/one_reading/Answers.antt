@@ -1,0 +1,5 @@
+use Rattle.msl_run.proofs.Forms.{one_script}
+use Rattle.msl_run.proofs.laws.one_reading.Goals as goal
+
+pub returns : goal.returns
+returns c = one_script

@@ -1,0 +1,37 @@
+-- What a run leaves behind: the one table of its endings.
+--     Ran means input left written status
+-- says it of a run that found `input` at its source and left `left` there, where `written` is what its sink grew by;
+-- `means` relates a stream to each stream that the script may make of it.
+use Rattle.std.specs.Prelude.{ℕ, ◌≡◌, List, [], ◌++◌, Option}
+use Rattle.msl_base.specs.Streams.{Record, Ending, done, failed, unread, Stream, stream}
+use Rattle.msl_io.specs.Lines.{reads, part}
+use Rattle.msl_io.specs.Text.{text}
+use Rattle.msl_io.specs.Known.{Told}
+use Rattle.msl_run.specs.declared.status.Status.{Status}
+use Rattle.msl_run.specs.declared.status.Status.TheVariants.{Done, Usage, Library, Unbuilt, Stream as Faulted, Read, Write, Memory}
+
+abbrev pub Ran : (Stream → Stream → Type 0) → List ℕ → List ℕ → List ℕ → Status → Type 0
+-- the text of a whole stream that the script gives for all records was written, and nothing is left
+Ran means input left written Done =
+    (records : List Record) × means (reads input) (stream records done) × (written ≡ text records) × (left ≡ [])
+-- the text of the records before the fault was written; how much more was read is open
+Ran means input left written (Faulted fault) =
+    (records : List Record) × means (reads input) (stream records (failed fault)) × (written ≡ text records)
+-- the text of what the script gives for the whole lines among the bytes that were taken
+Ran means input left written Read =
+    (records : List Record) × (taken : List ℕ) × (input ≡ taken ++ left) × means (part taken) (stream records unread) × (written ≡ text records)
+-- a beginning of the text of what the script gives
+Ran means input left written Write =
+    (records : List Record) × (ending : Ending) × (rest : List ℕ) × means (reads input) (stream records ending) × (text records ≡ written ++ rest)
+-- the text of the first of the records that the script gives, maybe of none
+Ran means input left written Memory =
+    (records : List Record) × (others : List Record) × (ending : Ending) × means (reads input) (stream (records ++ others) ending) × (written ≡ text records)
+-- no run began
+Ran means input left written Usage = ⊥
+Ran means input left written Library = ⊥
+Ran means input left written Unbuilt = ⊥
+
+-- the same, where the source and the sink tell their bytes
+abbrev pub RanTold : (Stream → Stream → Type 0) → Option (List ℕ) → Option (List ℕ) → Option (List ℕ) → Option (List ℕ) → Status → Type 0
+RanTold means left left' held held' status =
+    Told left left' (λ input rest. Told held held' (λ old new. (written : List ℕ) × (new ≡ old ++ written) × Ran means input rest written status))

@@ -1,0 +1,9 @@
+pub mod Causes
+pub mod FirstForm
+pub mod FormReading
+pub mod Headline
+pub mod Messages
+pub mod Places
+pub mod Stages
+pub mod Steps
+pub mod TopCall

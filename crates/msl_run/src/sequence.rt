@@ -1,0 +1,109 @@
+ghost use Rattle.std.specs.Prelude.{◌≡◌, ◌<◌, ◌≤◌, ℕ, length};
+ghost use Rattle.std.specs.Io.KnownBytes.{Keeps};
+ghost use Rattle.msl_base.specs.Streams.{pointwise};
+ghost use Rattle.msl_run.specs.Stages.{atomic_outcome, SeqRuns, HasStages};
+ghost use Rattle.msl_run.specs.Headline.{RanTold};
+ghost use Rattle.msl_run.specs.Causes.{StreamCause, IsEnding, HandsOn, count};
+ghost use Rattle.msl_run.specs.Steps.{next_of, Stepped, StepCause, Flushed};
+
+use crate::script::Script;
+use crate::status::Status;
+use msl_base::{Fault, Rec};
+use msl_io::{Line, LineReader, Sink, Source, WriteFault, write_rec};
+use msl_muscle::{EvalFault, Muscle};
+use std::alloc::Global;
+
+/// Runs a script over the records of a source, in their order.
+pub fn run_sequence<S: Source, K: Sink>(
+    alloc: Global,
+    script: &Script,
+    src: &mut S,
+    out: &mut K,
+) -> Status
+    requires { HasStages script.now }
+    ensures ran { RanTold (SeqRuns script.now) (S.left src.old) (S.left src.new) (K.held out.old) (K.held out.new) result }
+    ensures cause { StreamCause result (count (S.faults src.old) (S.faults src.new)) (count (K.faults out.old) (K.faults out.new)) }
+    ensures ending { IsEnding result }
+    ensures flushed { HandsOn result (K.flushed out.new) (K.held out.new) }
+{
+    run_atomic(alloc, script.funs.muscle(script.main.place()), src, out)
+}
+
+// Runs one function over the records of a source.
+fn run_atomic<S: Source, K: Sink>(alloc: Global, f: Muscle<'_>, src: &mut S, out: &mut K) -> Status
+    ensures ran { RanTold (λ X Y. Y ≡ pointwise (atomic_outcome f.entry.funs.now 1 f.entry.at) X) (S.left src.old) (S.left src.new) (K.held out.old) (K.held out.new) result }
+    ensures cause { StreamCause result (count (S.faults src.old) (S.faults src.new)) (count (K.faults out.old) (K.faults out.new)) }
+    ensures ending { IsEnding result }
+    ensures flushed { HandsOn result (K.flushed out.new) (K.held out.new) }
+{
+    let Ok(mut reader) = LineReader::new(alloc, u32::MAX) else {
+        return Status::Memory
+    };
+    'records: loop {
+        match next_record(reader.next(src)) {
+            Ok(rec) => match write_result(f, rec.as_slice(), out) {
+                Step::Written => {}
+                Step::Faulted(fault) => return flushed(out, Status::Stream(fault)),
+                Step::Failed => return Status::Write,
+            },
+            Err(Status::Memory) => return Status::Memory,
+            Err(status) => return flushed(out, status),
+        }
+    }
+}
+
+// The record to work on, or how the run ends.
+fn next_record(line: Line) -> Result<Rec, Status>
+    ensures { result ≡ next_of line }
+{
+    match line {
+        Line::Rec(rec) => Ok(rec),
+        Line::End => Err(Status::Done),
+        Line::BadRecord(n) => Err(Status::Stream(Fault::BadRecord(n))),
+        Line::LongLine(n) => Err(Status::Stream(Fault::LongLine(n))),
+        Line::WideRecord(n) => Err(Status::Stream(Fault::WideRecord(n))),
+        Line::ManyLines => Err(Status::Stream(Fault::ManyLines)),
+        Line::ReadFault => Err(Status::Read),
+        Line::NoMemory => Err(Status::Memory),
+    }
+}
+
+// Flushes, and answers the status or a fault of writing.
+fn flushed<K: Sink>(out: &mut K, status: Status) -> Status
+    ensures kept { Keeps (K.held out.old) (K.held out.new) }
+    ensures status { Flushed status result (K.faults out.old) (K.faults out.new) }
+    ensures flushed { HandsOn result (K.flushed out.new) (K.held out.new) }
+{
+    match out.flush() {
+        Ok(()) => status,
+        Err(_) => Status::Write,
+    }
+}
+
+// What was done of one record.
+enum Step {
+    Written,
+    Faulted(Fault),
+    Failed,
+}
+
+// Evaluates the function at a record, and writes the result.
+fn write_result<K: Sink>(f: Muscle<'_>, xs: &[i64], out: &mut K) -> Step
+    ensures stepped { Stepped result (atomic_outcome f.entry.funs.now 1 f.entry.at xs.now) (K.held out.old) (K.held out.new) }
+    ensures cause { StepCause result (K.faults out.old) (K.faults out.new) }
+{
+    let (params, results) = f.widths();
+    if xs.len() != params {
+        return Step::Faulted(Fault::Shape(1, xs.len() as u64, params as u64));
+    }
+    let mut ys = [0i64; 16];
+    match f.eval(xs, &mut ys[..results]) {
+        Ok(_) => match write_rec(out, &ys[..results]) {
+            Ok(()) => Step::Written,
+            Err(WriteFault) => Step::Failed,
+        },
+        Err(EvalFault::Overflow) => Step::Faulted(Fault::Overflow(1)),
+        Err(EvalFault::DivZero) => Step::Faulted(Fault::DivZero(1)),
+        Err(EvalFault::Steps) => Step::Faulted(Fault::Steps(1)),
+    }
+}

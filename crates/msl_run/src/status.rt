@@ -1,0 +1,41 @@
+ghost use Rattle.std.specs.Prelude.{◌≡◌};
+ghost use Rattle.msl_run.specs.Causes.{code_of};
+
+use msl_base::Fault;
+
+/// How a run of the program ended.
+#[derive(Clone, Copy, Debug)]
+pub enum Status {
+    /// All records were read, and all results were written.
+    Done,
+    /// The words are no command.
+    Usage,
+    /// The script can't be fetched.
+    Library,
+    /// The script is of a form that isn't built yet.
+    Unbuilt,
+    /// The stream ended with this fault.
+    Stream(Fault),
+    /// The source failed.
+    Read,
+    /// The sink failed.
+    Write,
+    /// Memory ran out.
+    Memory,
+}
+
+impl Status {
+    /// The exit status of the program: 0 where all is done, 1 after a fault of the stream, 2 where nothing was run
+    /// since the words or the script are refused, 3 where the outside failed, 4 where memory ran out.
+    pub fn code(&self) -> u8
+        ensures { result ≡ code_of self.now }
+    {
+        match self {
+            Status::Done => 0,
+            Status::Stream(_) => 1,
+            Status::Usage | Status::Unbuilt => 2,
+            Status::Library | Status::Read | Status::Write => 3,
+            Status::Memory => 4,
+        }
+    }
+}

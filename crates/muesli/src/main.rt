@@ -1,0 +1,40 @@
+//! Runs a skeleton program over lines of whole numbers.
+#![tactic(auto)]
+
+use msl_base::{Name, NoMemory};
+use msl_io::{RealLibrary, RealSink, RealSource};
+use msl_run::{Status, Words, muesli_plain, tell};
+use std::process::ExitCode;
+use std::rt::Env;
+use std::{env, io};
+
+fn main(rt: HostRuntime) -> io::Result<ExitCode> {
+    let alloc = rt.alloc();
+    let mut err = RealSink::new(rt.stderr());
+    let status = match words(&rt) {
+        Ok(words) => {
+            let mut lib = RealLibrary::new(rt.clone()?);
+            let mut src = RealSource::new(rt.stdin());
+            let mut out = RealSink::new(io::BufWriter::new(alloc, rt.stdout())?);
+            muesli_plain(alloc, &words, &mut lib, &mut src, &mut out, &mut err)
+        }
+        Err(NoMemory) => {
+            tell(&mut err, &Status::Memory);
+            Status::Memory
+        }
+    };
+    Ok(ExitCode::from(status.code()))
+}
+
+// The words of the command line, without the program's name. Where one of them isn't text there is no command, as
+// where there is no word.
+fn words<R: Env + AllocGlobal>(rt: &R) -> Result<Words, NoMemory> {
+    let mut words = Words::new(rt.alloc());
+    let Ok(args) = env::args(rt) else {
+        return Ok(words);
+    };
+    for arg in args.skip(1) {
+        words.add(Name::of(rt.alloc(), arg.as_str())?)?;
+    }
+    Ok(words)
+}
