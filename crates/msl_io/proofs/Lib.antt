@@ -1,7 +1,8 @@
+pub mod Answering
 pub mod Appending
 pub mod Digits
 pub mod Pieces
-pub mod Refusing
 pub mod Rows
+pub mod Splitting
 pub mod Taking
 pub mod Told

@@ -1,11 +1,13 @@
 -- The first line of bytes, and what streams say of it.
 use Rattle.std.proofs.Common.{arith, ◌≡◌, ◌≢◌, ℕ, ◌+◌, ◌<◌, ◌≤◌, List, [], ◌∷◌, ◌++◌, length, ap, sym, refl, ◌∙◌, subst, Bool, true, false, cond, ltb, Ok, Err, append_assoc, append-nil, length-append, inl, inr, ◌⊎◌}
 use Rattle.std.proofs.Math.Logic.{⊎_map}
+use Rattle.std.proofs.lemmas.Bool.{cond-true, cond-false, lt-ltb, le-ltb}
 use Rattle.std.proofs.lemmas.Bool.Decides.{nat_tests, eqb_tells}
 use Rattle.msl_base.specs.declared.fault.Fault.{Fault}
-use Rattle.msl_base.specs.declared.fault.Fault.TheVariants.{ManyLines}
+use Rattle.msl_base.specs.declared.fault.Fault.TheVariants.{ManyLines, LongLine}
 use Rattle.msl_base.specs.Streams.{Record, Outcome, Stream, stream, before, failed, unread}
-use Rattle.msl_io.specs.Lines.{Row, row, whole, rows_of, with_byte, HasNoLf, FirstRow, reading, led_by, stream_of, part_of, open_line}
+use Rattle.std.specs.Str.Lines.{strip_carriage_return}
+use Rattle.msl_io.specs.Lines.{Row, row, whole, rows_of, with_byte, HasNoLf, FirstRow, reading, record_of, numbers_of, words, most_bytes, led_by, stream_of, part_of, open_line}
 
 pub rows_of-no_lf : (b : ℕ) (bs : List ℕ) → b ≢ 10 → rows_of (b ∷ bs) ≡ with_byte b (rows_of bs)
 rows_of-no_lf b bs ne = grind (arith)
@@ -113,8 +115,20 @@ stream-many limit n [] some over = absurd (omega arith)
 stream-many limit n (b ∷ bs) some over = elim (first_of (b ∷ bs)) [ inl f ↦ many-first limit n (b ∷ bs) over f | inr e ↦ cc ]
 
 -- a front of a line
-pub part-rest : (limit n : ℕ) (bytes : List ℕ) → HasNoLf bytes → (0 < length bytes → n ≤ limit) → part_of limit n (rows_of bytes) ≡ stream [] unread
-part-rest limit n [] h le = refl
-part-rest limit n (b ∷ bs) h le =
+pub part-rest : (limit n : ℕ) (bytes : List ℕ) → HasNoLf bytes → length bytes ≤ most_bytes → (0 < length bytes → n ≤ limit) → part_of limit n (rows_of bytes) ≡ stream [] unread
+part-rest limit n [] h short le = refl
+part-rest limit n (b ∷ bs) h short le =
     ap (part_of limit n) (rows_of-unended b bs h)
     ∙ ap (λ (t : Bool). cond t (stream [] (failed ManyLines)) (stream [] (open_line n (b ∷ bs)))) (not_past limit n (le (omega arith)))
+    ∙ ap (stream []) (cond-false (ltb most_bytes (length (b ∷ bs))) (failed (LongLine n)) unread (le-ltb most_bytes (length (b ∷ bs)) short))
+
+-- a line that is too long already
+long-first : (limit n : ℕ) (bytes front : List ℕ) → n ≤ limit → most_bytes < length front → BeginsWith front bytes → stream_of limit n (rows_of bytes) ≡ stream [] (failed (LongLine n))
+long-first limit n bytes front le long b =
+    let line = row (front ++ b.more) b.ended in
+    stream-refused limit n bytes b.behind line (LongLine n) le b.first
+    (cond-true (ltb most_bytes (length line.bytes)) (Err (LongLine n)) (record_of n (numbers_of (words (strip_carriage_return line.bytes)))) (lt-ltb most_bytes (length line.bytes) (omega (arith, length-append front b.more, long))))
+
+pub stream-long : (limit n : ℕ) (front behind : List ℕ) → n ≤ limit → HasNoLf front → most_bytes < length front → stream_of limit n (rows_of (front ++ behind)) ≡ stream [] (failed (LongLine n))
+stream-long limit n [] behind le h long = absurd (omega arith)
+stream-long limit n (b ∷ front) behind le h long = long-first limit n ((b ∷ front) ++ behind) (b ∷ front) le long (front_of b front behind h)

@@ -1,8 +1,10 @@
 -- Lines, the records that they are, and the stream that bytes read as.
-use Rattle.std.specs.Prelude.{ℕ, ℤ, pos, neg_ℤ, ◌≡◌, ◌≢◌, ◌+◌, ◌^◌, ◌<◌, Bool, true, false, ◌&&◌, ◌==◌, nat_lt, nat_le, if◌then◌else◌, List, [], ◌∷◌, ◌++◌, length, Option, Some, None, Ok, Err, ⊤}
+use Rattle.std.specs.Prelude.{ℕ, ℤ, pos, neg_ℤ, ◌≡◌, ◌≢◌, ◌+◌, ◌^◌, ◌<◌, Bool, true, false, ◌&&◌, ◌||◌, ◌==◌, nat_lt, nat_le, if◌then◌else◌, List, [], ◌∷◌, ◌++◌, length, filter, Option, Some, None, Ok, Err, ⊤}
+use Rattle.std.specs.List.{slice_split}
 use Rattle.std.specs.Str.{all_ascii_digits}
+use Rattle.std.specs.Str.Lines.{strip_carriage_return}
 use Rattle.std.specs.Str.Parse.{digits_value}
-use Rattle.msl_base.specs.declared.fault.Fault.TheVariants.{BadRecord, ManyLines}
+use Rattle.msl_base.specs.declared.fault.Fault.TheVariants.{BadRecord, LongLine, WideRecord, ManyLines}
 use Rattle.msl_base.specs.Streams.{Outcome, Ending, done, failed, unread, Stream, stream, before}
 
 -- ---- lines
@@ -40,34 +42,65 @@ pub record FirstRow (bytes : List ℕ) (line : Row) (behind : List ℕ) : Type 0
   pub split : bytes ≡ whole line ++ behind
   pub last : line.ended ≡ false → (behind ≡ []) × (0 < length line.bytes)
 
--- ---- what one line says; for now a line is one number and an LF
+-- ---- what one line says
 
--- 1 to 19 decimal digits
-abbrev pub is_short_numeral : List ℕ → Bool
-is_short_numeral ds = nat_lt 0 (length ds) && (nat_le (length ds) 19 && all_ascii_digits ds)
+-- spaces and tabs stand between words
+abbrev pub is_blank : ℕ → Bool
+is_blank b = b == 32 || b == 9
+
+abbrev pub is_word : List ℕ → Bool
+is_word part = nat_lt 0 (length part)
+
+-- the words of a text
+abbrev pub words : List ℕ → List (List ℕ)
+words text = filter is_word (slice_split is_blank text)
+
+-- one or more decimal digits
+abbrev pub is_numeral : List ℕ → Bool
+is_numeral ds = nat_lt 0 (length ds) && all_ascii_digits ds
 
 abbrev pub unsigned_of : List ℕ → Option ℤ
-unsigned_of ds = if is_short_numeral ds && nat_lt (digits_value 10 ds) (2 ^ 63) then Some (pos (digits_value 10 ds)) else None
+unsigned_of ds = if is_numeral ds && nat_lt (digits_value 10 ds) (2 ^ 63) then Some (pos (digits_value 10 ds)) else None
 
 abbrev pub negative_of : List ℕ → Option ℤ
-negative_of ds = if is_short_numeral ds && nat_le (digits_value 10 ds) (2 ^ 63) then Some (neg_ℤ (pos (digits_value 10 ds))) else None
+negative_of ds = if is_numeral ds && nat_le (digits_value 10 ds) (2 ^ 63) then Some (neg_ℤ (pos (digits_value 10 ds))) else None
 
--- the number that bytes spell, in 64 bits: an optional '-', then the digits
+-- the number that a word spells, in 64 bits: '+', '-' or neither, then the digits
 abbrev pub number_of : List ℕ → Option ℤ
 number_of [] = None
-number_of (c ∷ cs) = if c == 45 then negative_of cs else unsigned_of (c ∷ cs)
+number_of (c ∷ cs) = if c == 45 then negative_of cs else if c == 43 then unsigned_of cs else unsigned_of (c ∷ cs)
 
-abbrev pub one_number : ℕ → Option ℤ → Outcome
-one_number n None = Err (BadRecord n)
-one_number n (Some z) = Ok (z ∷ [])
+abbrev pub in_front : Option ℤ → Option (List ℤ) → Option (List ℤ)
+in_front (Some z) (Some zs) = Some (z ∷ zs)
+in_front (Some z) None = None
+in_front None numbers = None
 
--- the record that line number n is, or why it is refused
+-- the numbers that words spell, where each spells one
+abbrev pub numbers_of : List (List ℕ) → Option (List ℤ)
+numbers_of [] = Some []
+numbers_of (w ∷ ws) = in_front (number_of w) (numbers_of ws)
+
+-- the most bytes of a line before its LF or the end, and the most numbers of a record
+abbrev pub most_bytes : ℕ
+most_bytes = 33554432
+
+abbrev pub most_numbers : ℕ
+most_numbers = 1048576
+
+-- the record of line number n, from the numbers that its words spell
+abbrev pub record_of : ℕ → Option (List ℤ) → Outcome
+record_of n None = Err (BadRecord n)
+record_of n (Some zs) = if nat_lt most_numbers (length zs) then Err (WideRecord n) else Ok zs
+
+-- the record that line number n is, or why it is refused; its text is its bytes without one CR at their end
 abbrev pub reading : ℕ → Row → Outcome
-reading n line = if line.ended then one_number n (number_of line.bytes) else Err (BadRecord n)
+reading n line =
+    if nat_lt most_bytes (length line.bytes) then Err (LongLine n)
+    else record_of n (numbers_of (words (strip_carriage_return line.bytes)))
 
--- how the stream of a part ends in a line that may go on: nothing is known of it yet
+-- how the stream of a part ends in a line that may go on: it is refused where it is too long already
 abbrev pub open_line : ℕ → List ℕ → Ending
-open_line n bytes = unread
+open_line n bytes = if nat_lt most_bytes (length bytes) then failed (LongLine n) else unread
 
 -- ---- streams
 

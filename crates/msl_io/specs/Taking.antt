@@ -1,50 +1,161 @@
--- How a line is taken byte by byte out of a chunk and the source behind it.
-use Rattle.std.specs.Prelude.{ℕ, ◌≡◌, ◌≤◌, ◌<◌, ◌+◌, Bool, true, false, List, [], ◌∷◌, ◌++◌, length, take, ⊤}
-use Rattle.msl_base.specs.declared.fault.Fault.TheVariants.{BadRecord}
-use Rattle.msl_io.specs.declared.chunk.Byte.{Byte}
-use Rattle.msl_io.specs.declared.chunk.Byte.TheVariants.{Next, End, Fault}
-use Rattle.msl_io.specs.declared.lines.Taken.{Taken}
-use Rattle.msl_io.specs.declared.lines.Taken.TheVariants as taken
+-- How a line is taken piece by piece out of a chunk and the source behind it.
+use Rattle.std.specs.Prelude.{ℕ, ℤ, ◌≡◌, ◌≤◌, ◌<◌, ◌+◌, ◌==◌, ◌||◌, Bool, true, false, min, if◌then◌else◌, List, [], ◌∷◌, ◌++◌, length, take, slice_index, All, Option, Some, None, Ok, Err, ⊤, ◌⊎◌}
+use Rattle.std.specs.Str.Lines.{strip_carriage_return}
+use Rattle.std.specs.Str.Parse.{digits_value, AllDigits}
+use Rattle.msl_base.specs.declared.fault.Fault.TheVariants as faults
+use Rattle.msl_base.specs.Streams.{Outcome}
+use Rattle.msl_io.specs.declared.chunk.Filled.{Filled}
+use Rattle.msl_io.specs.declared.chunk.Filled.TheVariants.{Bytes, End, Fault}
+use Rattle.msl_io.specs.declared.lines.Line.{Line}
+use Rattle.msl_io.specs.declared.lines.Line.TheVariants as line
+use Rattle.msl_io.specs.declared.numeral.Word.{Word}
+use Rattle.msl_io.specs.declared.text.Part.{Part}
+use Rattle.msl_io.specs.declared.text.Part.TheVariants as part
+use Rattle.msl_io.specs.declared.text.Text.{Text}
+use Rattle.msl_io.specs.declared.words.Words.{Words}
+use Rattle.msl_io.specs.declared.lines.Stop.{Stop}
+use Rattle.msl_io.specs.declared.lines.Stop.TheVariants as stop
 use Rattle.msl_io.specs.Causes.{Rose}
-use Rattle.msl_io.specs.Lines.{HasNoLf, row, reading, Row, FirstRow}
-use Rattle.std.specs.Prelude.{Err}
+use Rattle.msl_io.specs.Reader.{MayGoOn, stop_of}
+use Rattle.msl_io.specs.Lines.{HasNoLf, is_blank, words, numbers_of, most_bytes, most_numbers}
 
--- what a byte says of the bytes of the chunk and the source together, before and after
-abbrev pub TakesByte : Byte → List ℕ → List ℕ → List ℕ → List ℕ → Type 0
-TakesByte (Next b) rest left rest' left' = rest ++ left ≡ b ∷ (rest' ++ left')
-TakesByte End rest left rest' left' = (rest ++ left ≡ []) × (left' ≡ [])
-TakesByte Fault rest left rest' left' = rest ++ left ≡ left'
+-- ---- words
+
+-- the least magnitude that no number of 64 bits has
+abbrev pub too_great : ℕ
+too_great = 9223372036854775809
+
+abbrev pub is_sign : ℕ → Bool
+is_sign b = b == 45 || b == 43
+
+abbrev pub IsSign : Bool → List ℕ → Type 0
+IsSign negative [] = negative ≡ false
+IsSign negative (c ∷ cs) = (cs ≡ []) × (((c ≡ 45) × (negative ≡ true)) ⊎ ((c ≡ 43) × (negative ≡ false)))
+
+-- a word that is read so far: a sign or none, and digits
+pub record IsWord (word : Word) (bytes : List ℕ) : Type 0 where
+  pub sign : List ℕ
+  pub digits : List ℕ
+  pub split : bytes ≡ sign ++ digits
+  pub signed : IsSign word.negative sign
+  pub decimal : AllDigits 10 digits
+  pub unopened : word.begun ≡ false → bytes ≡ []
+  pub opened : word.begun ≡ true → 0 < length bytes
+  pub unspelt : word.digits ≡ false → digits ≡ []
+  pub spelt : word.digits ≡ true → 0 < length digits
+  pub value : word.magnitude ≡ min (digits_value 10 digits) too_great
+
+-- no text that begins so is a record's
+abbrev pub IsSpoilt : List ℕ → Type 0
+IsSpoilt text = (more : List ℕ) → numbers_of (words (text ++ more)) ≡ None
+
+-- the numbers of the whole words, and how many they are, up to one more than there may be
+pub record Holds (numbers : List ℤ) (w : Words) : Type 0 where
+  pub count : w.count ≡ min (length numbers) (most_numbers + 1)
+  pub kept : w.count ≤ most_numbers → w.numbers.numbers ≡ numbers
+
+-- a text whose last word may go on
+pub record IsOpen (text : List ℕ) (w : Words) (word : Word) : Type 0 where
+  pub front : List ℕ
+  pub last : List ℕ
+  pub numbers : List ℤ
+  pub split : text ≡ front ++ last
+  pub cut : (more : List ℕ) → words (front ++ more) ≡ words front ++ words more
+  pub unbroken : All (λ b. is_blank b ≡ false) last
+  pub spelt : numbers_of (words front) ≡ Some numbers
+  pub holds : Holds numbers w
+  pub is_word : IsWord word last
+
+-- a text that was scanned, of which more may come
+pub record Scanned (text : List ℕ) (w : Words) (word : Word) : Type 0 where
+  pub spoilt : w.bad ≡ true → IsSpoilt text
+  pub good : w.bad ≡ false → IsOpen text w word
+
+abbrev pub HasNumbers : List ℕ → Words → Type 0
+HasNumbers text w = (numbers : List ℤ) × (numbers_of (words text) ≡ Some numbers) × Holds numbers w
+
+-- a text whose last word is whole
+pub record Closed (text : List ℕ) (w : Words) : Type 0 where
+  pub spoilt : w.bad ≡ true → numbers_of (words text) ≡ None
+  pub good : w.bad ≡ false → HasNumbers text w
+
+-- ---- lines
+
+-- the bytes of a line so far: its text, and maybe a CR behind it, which belongs to the text only where more comes
+pub record HasTaken (taken : List ℕ) (t : Text) : Type 0 where
+  pub text : List ℕ
+  pub split : taken ≡ text ++ (if t.cr then 13 ∷ [] else [])
+  pub stripped : strip_carriage_return taken ≡ text
+  pub scanned : Scanned text t.words t.word
+  pub len : t.len ≡ length taken
+  pub no_lf : HasNoLf taken
+
+-- n bytes stand before the first LF, or all the bytes
+pub record IsLineEnd (bytes : List ℕ) (n : ℕ) : Type 0 where
+  pub within : n ≤ length bytes
+  pub no_lf : HasNoLf (take n bytes)
+  pub lf : n < length bytes → slice_index bytes n ≡ 10
+
+-- what a line's bytes gave
+abbrev pub Gives : Outcome → Line → Type 0
+Gives outcome (line.Rec r) = outcome ≡ Ok r.numbers
+Gives outcome (line.BadRecord n) = outcome ≡ Err (faults.BadRecord n)
+Gives outcome (line.WideRecord n) = outcome ≡ Err (faults.WideRecord n)
+Gives outcome line.NoMemory = ⊤
+Gives outcome other = ⊥
+
+abbrev pub IsOfText : Line → Type 0
+IsOfText (line.Rec r) = ⊤
+IsOfText (line.BadRecord n) = ⊤
+IsOfText (line.WideRecord n) = ⊤
+IsOfText line.NoMemory = ⊤
+IsOfText other = ⊥
+
+-- what is taken of a line out of a chunk, where `taken` was taken before
+abbrev pub TakesPart : Part → List ℕ → List ℕ → Text → List ℕ → Type 0
+TakesPart part.More taken chunk t rest = HasTaken (taken ++ chunk) t × (rest ≡ [])
+TakesPart part.Ended taken chunk t rest = (bytes : List ℕ) × (chunk ≡ bytes ++ (10 ∷ rest)) × HasTaken (taken ++ bytes) t
+TakesPart part.Long taken chunk t rest =
+    (bytes : List ℕ) × (behind : List ℕ) × (chunk ≡ bytes ++ behind) × HasNoLf bytes × (most_bytes < length taken + length bytes)
+TakesPart part.NoMemory taken chunk t rest = ⊤
+
+-- the same of the length alone
+abbrev pub PartFits : Part → ℕ → ℕ → Type 0
+PartFits part.More before now = (before < now) × (now ≤ most_bytes)
+PartFits part.Ended before now = now ≤ most_bytes
+PartFits other before now = ⊤
+
+-- ---- chunks
+
+-- what a chunk and the source together have, before and after it was filled
+abbrev pub Fills : Filled → List ℕ → List ℕ → List ℕ → List ℕ → Type 0
+Fills Bytes rest left rest' left' = rest ++ left ≡ rest' ++ left'
+Fills End rest left rest' left' = (rest ++ left ≡ []) × (rest' ≡ []) × (left' ≡ [])
+Fills Fault rest left rest' left' = rest ++ left ≡ left'
+
+abbrev pub FillsSome : Filled → List ℕ → Type 0
+FillsSome Bytes rest = 0 < length rest
+FillsSome other rest = ⊤
 
 -- the count never falls, and has risen at a fault
-abbrev pub ByteCause : Byte → ℕ → ℕ → Type 0
-ByteCause Fault before now = (before ≤ now) × Rose before now
-ByteCause _ before now = before ≤ now
+abbrev pub FillCause : Filled → ℕ → ℕ → Type 0
+FillCause Fault before now = (before ≤ now) × Rose before now
+FillCause other before now = before ≤ now
 
--- the first line of some bytes is no record, whatever its number
-abbrev pub IsBad : List ℕ → Type 0
-IsBad bytes = (line : Row) × (behind : List ℕ) × FirstRow bytes line behind × ((n : ℕ) → reading n line ≡ Err (BadRecord n))
-
--- what a line says of all the bytes before, and of those behind it
-abbrev pub TakesLine : Taken → Bool → List ℕ → List ℕ → List ℕ → List ℕ → Type 0
-TakesLine (taken.Line n) full bytes line rest left =
-    (full ≡ false) × HasNoLf (take n line) × (bytes ≡ take n line ++ (10 ∷ (rest ++ left)))
-TakesLine taken.End full bytes line rest left = (bytes ≡ []) × (left ≡ [])
-TakesLine taken.Bad full bytes line rest left = (full ≡ false) × IsBad bytes
-TakesLine taken.Many full bytes line rest left = (full ≡ true) × (0 < length bytes)
-TakesLine taken.Fault full bytes line rest left =
-    (front : List ℕ) × HasNoLf front × (bytes ≡ front ++ left) × (0 < length front → full ≡ false)
-
-abbrev pub LineCause : Taken → ℕ → ℕ → Type 0
-LineCause taken.Fault before now = (before ≤ now) × Rose before now
-LineCause _ before now = before ≤ now
-
--- a line's length, and that there was room for a line
-abbrev pub LineFits : Taken → Bool → Type 0
-LineFits (taken.Line n) full = (n ≤ 20) × (full ≡ false)
-LineFits taken.Bad full = full ≡ false
-LineFits _ full = ⊤
-
--- how far a line was taken: these bytes of it, out of all the bytes, before those of the chunk and those left
-pub record Took (taken bytes rest left : List ℕ) : Type 0 where
-  pub no_lf : HasNoLf taken
+-- how far a line was taken, out of all the bytes, before those of the chunk and those left
+pub record Took (bytes rest left : List ℕ) (t : Text) : Type 0 where
+  pub taken : List ℕ
+  pub has : HasTaken taken t
   pub split : bytes ≡ taken ++ (rest ++ left)
+
+-- ---- answers
+
+-- the reader reads no more behind a line that no LF ends
+abbrev pub last_stop : Line → Option Stop
+last_stop (line.Rec r) = Some stop.End
+last_stop other = stop_of other
+
+-- every answer but a record stops the reader, and behind a record it goes on or has come to the end
+abbrev pub Stops : Line → Option Stop → Type 0
+Stops (line.Rec r) s = MayGoOn s
+Stops other s = s ≡ stop_of other

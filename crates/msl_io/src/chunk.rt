@@ -1,6 +1,6 @@
-ghost use Rattle.std.specs.Prelude.{◌≡◌, [], ◌++◌, IfOk, ◌≤◌, length};
+ghost use Rattle.std.specs.Prelude.{◌≡◌, [], IfOk, ◌≤◌, length, drop};
 ghost use Rattle.msl_io.specs.Known.{Told};
-ghost use Rattle.msl_io.specs.Taking.{TakesByte, ByteCause};
+ghost use Rattle.msl_io.specs.Taking.{Fills, FillsSome, FillCause};
 
 use crate::Source;
 use msl_base::NoMemory;
@@ -9,10 +9,13 @@ use std::marker::Model;
 
 const SIZE: usize = 4096;
 
-/// One byte of a source.
-pub enum Byte {
-    Next(u8),
+/// How a chunk was filled.
+pub enum Filled {
+    /// It has bytes.
+    Bytes,
+    /// It has none, and none is left.
     End,
+    /// It has none, and the source failed.
     Fault,
 }
 
@@ -47,23 +50,39 @@ impl Chunk {
         })
     }
 
-    /// The next byte, read from the source where the chunk is used up.
-    pub fn take<S: Source>(&mut self, src: &mut S) -> Byte
-        ensures byte { Told (S.left src.old) (S.left src.new) (λ left left'. TakesByte result self.old left self.new left') }
-        ensures cause { ByteCause result (S.faults src.old) (S.faults src.new) }
+    /// Reads from the source where the chunk is used up.
+    pub fn fill<S: Source>(&mut self, src: &mut S) -> Filled
+        ensures bytes { Told (S.left src.old) (S.left src.new) (λ left left'. Fills result self.old left self.new left') }
+        ensures cause { FillCause result (S.faults src.old) (S.faults src.new) }
+        ensures some { FillsSome result self.new }
+        ensures kept { length self.new ≤ 4096 }
     {
-        if self.from == self.to {
-            match src.read(self.bytes.as_mut_slice()) {
-                Ok(0) => return Byte::End,
-                Ok(n) => {
-                    self.from = 0;
-                    self.to = n;
-                }
-                Err(_) => return Byte::Fault,
-            }
+        if self.from < self.to {
+            return Filled::Bytes;
         }
-        let b = self.bytes[self.from];
-        self.from += 1;
-        Byte::Next(b)
+        match src.read(self.bytes.as_mut_slice()) {
+            Ok(0) => Filled::End,
+            Ok(n) => {
+                self.from = 0;
+                self.to = n;
+                Filled::Bytes
+            }
+            Err(_) => Filled::Fault,
+        }
+    }
+
+    /// The bytes.
+    pub fn as_slice(&self) -> &[u8]
+        ensures { result.now ≡ self.now }
+    {
+        &self.bytes[self.from..self.to]
+    }
+
+    /// Takes bytes off the front.
+    pub fn advance(&mut self, n: usize)
+        requires { n ≤ length self.old }
+        ensures { self.new ≡ drop n self.old }
+    {
+        self.from += n;
     }
 }

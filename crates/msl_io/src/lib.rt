@@ -11,6 +11,8 @@ mod piece;
 mod real;
 #[cfg(test)]
 mod tests;
+mod text;
+mod words;
 mod write;
 
 pub use lines::{Line, LineReader, Stop};

@@ -1,17 +1,14 @@
-ghost use Rattle.std.specs.Prelude.{◌≡◌, ◌+◌, ◌<◌, ◌≤◌, [], ◌++◌, Option, Some, None, IsNone, IsSome, IfOk, MatchOption, ◌∷◌, ℕ, ℤ, length};
+ghost use Rattle.std.specs.Prelude.{◌≡◌, ◌+◌, ◌≤◌, [], ◌++◌, Some, None, IsNone, IsSome, IfOk, length};
 ghost use Rattle.msl_io.specs.Known.{Told};
 ghost use Rattle.msl_io.specs.Reader.{ReadsLine, stop_of, Counts, ReadCause, Reads, Fits};
-ghost use Rattle.msl_io.specs.Lines.{number_of};
-ghost use Rattle.msl_io.specs.Taking.{TakesLine, LineCause, LineFits};
+ghost use Rattle.msl_io.specs.Taking.{last_stop, Stops};
 
 use crate::Source;
-use crate::chunk::{Byte, Chunk};
-use crate::numeral::number;
+use crate::chunk::{Chunk, Filled};
+use crate::text::{Part, Text};
 use msl_base::{NoMemory, Rec};
 use std::alloc::Global;
 use std::marker::Model;
-
-const LF: u8 = b'\n';
 
 /// What the next line is. Lines are numbered from 1.
 #[derive(Debug, Drop)]
@@ -20,11 +17,11 @@ pub enum Line {
     Rec(Rec),
     /// No line is left.
     End,
-    /// The line of this number isn't the text of a record.
+    /// Some word of the line of this number is no number.
     BadRecord(u32),
-    /// The line of this number has more bytes than a line may have.
+    /// The line of this number has more than 33,554,432 bytes, a CR counted, before its LF or the end.
     LongLine(u32),
-    /// The line of this number has more numbers than a record may have.
+    /// The line of this number has more than 1,048,576 words.
     WideRecord(u32),
     /// A line begins behind the greatest number of lines.
     ManyLines,
@@ -81,7 +78,13 @@ impl Line {
     }
 }
 
-/// Reads records line by line from a source. It keeps at most 4,096 bytes that it has read and not used.
+/// Reads records line by line from a source.
+///
+/// A line ends at an LF or at the end of the source, and its text is its bytes without one CR at their end. Spaces
+/// and tabs stand between the words of a text. Each word is a number: `+`, `-` or neither, then one or more decimal
+/// digits, with a value of 64 signed bits. The record is these numbers; it is empty where there is no word.
+///
+/// The reader keeps at most 4,096 bytes that it has read and not used, and takes memory for the record alone.
 #[derive(Drop)]
 pub struct LineReader {
     alloc: Global,
@@ -118,25 +121,52 @@ impl LineReader {
         })
     }
 
-    /// The next line's record, or why there is none. After any answer but a record it answers the same again, and
-    /// reads nothing.
+    /// The next line's record, or why there is none: the first that holds of `ManyLines`, `LongLine`, `BadRecord` and
+    /// `WideRecord`. A line that is too long is refused as soon as that shows, and any other is read to its end. Where
+    /// the source fails before that, nothing is said of the line. After any answer but a record, and after the record
+    /// of a last line that no LF ends, it reads no more: it gives the same answer, or `End`, from then on.
     pub fn next<S: Source>(&mut self, src: &mut S) -> Line
         ensures line { IsNone self.old.stopped → ReadsLine (S.left src.old) (S.left src.new) self.old self.new result }
         ensures cause { IsNone self.old.stopped → ReadCause result (S.faults src.old) (S.faults src.new) }
         ensures counts { IsNone self.old.stopped → Counts self.old self.new result }
         ensures lines { self.new.lines ≡ self.old.lines }
-
+        ensures kept { IsNone self.new.stopped → length self.new.rest ≤ 4096 }
         ensures again { IsSome self.old.stopped → (stop_of result ≡ self.old.stopped) × (self.new ≡ self.old) × (src.new ≡ src.old) }
     {
         if let Some(stop) = self.stop {
             return stop.line();
         }
-        let line = read_line(self.alloc, &mut self.chunk, src, self.read, self.lines);
-        if let Line::Rec(_) = &line {
+        let answer = read_line(self.alloc, &mut self.chunk, src, self.read, self.lines);
+        if let Line::Rec(_) = &answer.line {
             self.read += 1;
         }
-        self.stop = line.stop();
-        line
+        self.stop = answer.stop;
+        answer.line
+    }
+}
+
+// An answer, and why the reader reads no more behind it.
+#[derive(Drop)]
+struct Answer {
+    line: Line,
+    stop: Option<Stop>,
+}
+
+impl Answer {
+    // An answer behind which more lines may come.
+    fn new(line: Line) -> Answer
+        ensures { result ≡ record { line = line; stop = stop_of line } }
+    {
+        let stop = line.stop();
+        Answer { line, stop }
+    }
+
+    // The answer to a line that no LF ends.
+    fn last(line: Line) -> Answer
+        ensures { result ≡ record { line = line; stop = last_stop line } }
+    {
+        let stop = line.stop().or(Some(Stop::End));
+        Answer { line, stop }
     }
 }
 
@@ -147,68 +177,38 @@ fn read_line<S: Source>(
     src: &mut S,
     read: u32,
     lines: u32,
-) -> Line
+) -> Answer
     requires { read ≤ lines }
-    ensures line { Told (S.left src.old) (S.left src.new) (λ l l'. Reads lines (read + 1) (chunk.old ++ l) (chunk.new ++ l') l' (stop_of result) result) }
-    ensures cause { ReadCause result (S.faults src.old) (S.faults src.new) }
-    ensures fits { Fits read lines result }
+    ensures line { Told (S.left src.old) (S.left src.new) (λ l l'. Reads lines (read + 1) (chunk.old ++ l) (chunk.new ++ l') l' result.stop result.line) }
+    ensures cause { ReadCause result.line (S.faults src.old) (S.faults src.new) }
+    ensures fits { Fits read lines result.line }
+    ensures stops { Stops result.line result.stop }
+    ensures kept { length chunk.new ≤ 4096 }
 {
-    let mut line = [0u8; 20];
-    match take_line(chunk, src, read == lines, &mut line) {
-        Taken::Line(len) => match read_record(alloc, &line[..len]) {
-            Ok(Some(rec)) => Line::Rec(rec),
-            Ok(None) => Line::BadRecord(read + 1),
-            Err(NoMemory) => Line::NoMemory,
-        },
-        Taken::Bad => Line::BadRecord(read + 1),
-        Taken::End => Line::End,
-        Taken::Many => Line::ManyLines,
-        Taken::Fault => Line::ReadFault,
-    }
-}
-
-// The record of a line's bytes.
-fn read_record(alloc: Global, line: &[u8]) -> Result<Option<Rec>, NoMemory>
-    ensures { IfOk result (λ found. MatchOption found (number_of line.now ≡ None) (λ r. (z : ℤ) × (number_of line.now ≡ Some z) × (r.numbers ≡ z ∷ []))) }
-{
-    match number(line) {
-        Some(x) => Ok(Some(Rec::of_slice(alloc, &[x])?)),
-        None => Ok(None),
-    }
-}
-
-enum Taken {
-    Line(usize),
-    End,
-    Bad,
-    Many,
-    Fault,
-}
-
-// Takes the first line's bytes, its LF too.
-fn take_line<S: Source>(chunk: &mut Chunk, src: &mut S, full: bool, line: &mut [u8]) -> Taken
-    requires { length line.old ≡ 20 }
-    ensures line { Told (S.left src.old) (S.left src.new) (λ left left'. TakesLine result full (chunk.old ++ left) line.new chunk.new left') }
-    ensures cause { LineCause result (S.faults src.old) (S.faults src.new) }
-    ensures fits { LineFits result full }
-{
-    for i in 0..21 {
-        match chunk.take(src) {
-            Byte::Next(b) => {
-                if i == 0 && full {
-                    return Taken::Many;
-                }
-                if b == LF {
-                    return Taken::Line(i);
-                }
-                if i == 20 {
-                    return Taken::Bad;
-                }
-                line[i] = b;
+    let mut text = Text::new(alloc);
+    'parts: loop {
+        match chunk.fill(src) {
+            Filled::Bytes => (),
+            Filled::End => {
+                return if text.is_empty() {
+                    Answer::new(Line::End)
+                } else {
+                    Answer::last(text.finish(read + 1))
+                };
             }
-            Byte::End => return if i == 0 { Taken::End } else { Taken::Bad },
-            Byte::Fault => return Taken::Fault,
+            Filled::Fault => return Answer::new(Line::ReadFault),
+        }
+        if read == lines {
+            return Answer::new(Line::ManyLines);
+        }
+        match text.take_from(chunk) {
+            Part::More => (),
+            Part::Ended => return Answer::new(text.finish(read + 1)),
+            Part::Long => return Answer::new(Line::LongLine(read + 1)),
+            Part::NoMemory => return Answer::new(Line::NoMemory),
         }
     }
-    Taken::Bad
 }
+
+#[cfg(test)]
+mod tests;

@@ -1,41 +1,110 @@
-ghost use Rattle.std.specs.Prelude.{◌≡◌, Some, None, if◌then◌else◌};
-ghost use Rattle.std.specs.Str.Parse.{digits_value};
-ghost use Rattle.msl_io.specs.Lines.{number_of, is_short_numeral};
+ghost use Rattle.std.specs.Prelude.{◌≡◌, ◌+◌, ◌-◌, ◌*◌, ◌⊎◌, List, [], ◌∷◌, ◌++◌, ℕ, min, not, ◌&&◌};
+ghost use Rattle.std.specs.Int.{IsInRange};
+ghost use Rattle.msl_io.specs.Lines.{number_of};
+ghost use Rattle.msl_io.specs.Taking.{is_sign, IsWord, too_great};
 
-/// The number that bytes spell: an optional `-`, then 1 to 19 decimal digits, with a value of 64 signed bits.
-pub fn number(bytes: &[u8]) -> Option<i64>
-    ensures { result ≡ number_of bytes.now }
-{
-    match bytes {
-        [] => None,
-        [b'-', digits @ ..] => {
-            let n = magnitude(digits)?;
+// The least magnitude that no number of 64 bits has.
+const TOO_GREAT: u64 = (1 << 63) + 1;
+
+/// A word that is being read: a sign or none, and decimal digits.
+#[derive(Clone, Copy)]
+pub struct Word {
+    begun: bool,
+    negative: bool,
+    digits: bool,
+    // at most `TOO_GREAT`
+    magnitude: u64,
+}
+
+impl Word {
+    /// The word with no byte.
+    #[inline]
+    pub fn none() -> Word
+        ensures { IsWord result [] }
+    {
+        Word {
+            begun: false,
+            negative: false,
+            digits: false,
+            magnitude: 0,
+        }
+    }
+
+    /// The word that is a sign alone.
+    #[inline]
+    pub fn of_sign(sign: u8) -> Word
+        requires { (sign ≡ 43) ⊎ (sign ≡ 45) }
+        ensures { IsWord result (sign ∷ []) }
+    {
+        Word {
+            begun: true,
+            negative: sign == b'-',
+            digits: false,
+            magnitude: 0,
+        }
+    }
+
+    /// Whether the word has a byte.
+    #[inline]
+    pub fn has_begun(self) -> bool
+        ensures { result ≡ self.begun }
+    {
+        self.begun
+    }
+
+    /// Whether the word has no byte, and this is a sign that it may begin with.
+    #[inline]
+    pub fn may_begin_with(self, b: u8) -> bool
+        ensures { result ≡ (not self.begun && is_sign b) }
+    {
+        !self.begun && (b == b'-' || b == b'+')
+    }
+
+    /// The word with one more digit.
+    #[inline]
+    pub fn with_digit(self, digit: u8) -> Word
+        requires { IsInRange 48 57 digit }
+        ensures { (bytes : List ℕ) → IsWord self bytes → IsWord result (bytes ++ digit ∷ []) }
+    {
+        Word {
+            begun: true,
+            digits: true,
+            magnitude: append_digit(self.magnitude, digit),
+            ..self
+        }
+    }
+
+    /// The number that the word spells, if it spells one.
+    #[inline]
+    pub fn value(self) -> Option<i64>
+        ensures { (bytes : List ℕ) → IsWord self bytes → result ≡ number_of bytes }
+    {
+        let n = self.magnitude;
+        if !self.digits {
+            None
+        } else if self.negative {
             if n <= 1 << 63 {
                 Some((-i128::from(n)) as i64)
             } else {
                 None
             }
-        }
-        digits => {
-            let n = magnitude(digits)?;
-            if n < 1 << 63 { Some(n as i64) } else { None }
+        } else if n < 1 << 63 {
+            Some(n as i64)
+        } else {
+            None
         }
     }
 }
 
-// The value of 1 to 19 digits.
-fn magnitude(digits: &[u8]) -> Option<u64>
-    ensures { result ≡ (if is_short_numeral digits.now then Some (digits_value 10 digits.now) else None) }
+// A magnitude with one more digit, which stays at `TOO_GREAT` once it is there.
+#[inline]
+fn append_digit(magnitude: u64, digit: u8) -> u64
+    requires { IsInRange 48 57 digit }
+    ensures { (value : ℕ) → magnitude ≡ min value too_great → result ≡ min (value * 10 + (digit - 48)) too_great }
 {
-    if digits.is_empty() || digits.len() > 19 {
-        return None;
+    if magnitude <= TOO_GREAT / 10 {
+        magnitude * 10 + u64::from(digit - b'0')
+    } else {
+        TOO_GREAT
     }
-    let mut n = 0u64;
-    for &d in digits {
-        if !d.is_ascii_digit() {
-            return None;
-        }
-        n = n * 10 + u64::from(d - b'0');
-    }
-    Some(n)
 }

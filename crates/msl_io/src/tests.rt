@@ -1,5 +1,7 @@
-use crate::{Bytes, Calls, Failed, Fetched, File, FileList, Library, MemLibrary, MemSink, MemSource, Piece};
-use crate::{RealLibrary, RealSink, RealSource, Sink, Source, write_rec, write_text};
+use crate::{
+    Bytes, Calls, Failed, Fetched, File, FileList, Library, MemLibrary, MemSink, MemSource, Piece,
+    RealLibrary, RealSink, RealSource, Sink, Source, write_rec, write_text,
+};
 use msl_base::Name;
 use std::fs;
 use std::test::Fail;
@@ -17,7 +19,10 @@ fn records_are_written(rt: HostRuntime) -> Result<(), Fail> {
     piece.push_decimal(12);
     piece.push(b'\n');
     assert!(rt; write_text(&mut sink, piece.as_slice()).is_ok());
-    assert_eq!(rt; sink.held(), b"9 -16\n\n-9223372036854775808 0\nend\nline 12\n".as_slice());
+    assert_eq!(rt;
+        sink.held(),
+        b"9 -16\n\n-9223372036854775808 0\nend\nline 12\n".as_slice()
+    );
 
     // A record of many numbers goes through the sink in pieces.
     let none = Calls::new(rt.alloc());

@@ -1,0 +1,9 @@
+pub mod Numbers
+pub mod Fronts
+pub mod Layouts
+pub mod Orders
+pub mod Readings
+pub mod Said
+pub mod Spellings
+pub mod Steps
+pub mod Within

@@ -1,0 +1,5 @@
+pub mod Bytes
+pub mod Lexemes
+pub mod Layout
+pub mod Pieces
+pub mod Places
