@@ -1,2 +1,7 @@
+pub mod Rows
+pub mod Shapes
 pub mod Meaning
-pub mod Sound
+pub mod Budget
+pub mod Checks
+pub mod Evaluable
+pub mod Muscle

@@ -1,53 +1,163 @@
-ghost use Rattle.std.specs.Prelude.{◌≡◌, ◌≤◌, ◌+◌, ℕ, length, OnOk};
-ghost use Rattle.msl_muscle.specs.Meaning.{value_of, applied, limited};
-ghost use Rattle.msl_muscle.specs.Sound.{HasSlotsBelow};
+// The walk over an expression. `spent` counts the nodes begun so far in the whole evaluation.
 
-use crate::{BinOp, Expr};
+ghost use Rattle.std.specs.Prelude.{◌≡◌, ◌+◌, ◌<◌, ◌≤◌, ℕ, length, Some, OnOk};
+ghost use Rattle.msl_muscle.specs.Budget.{ended, spend, value_over, binary_over, choice_over, binding_over, looping_over, calling_over};
+ghost use Rattle.msl_muscle.specs.Checks.{AreFuns, widths_of};
+ghost use Rattle.msl_muscle.specs.Evaluable.{IsEvaluable, AreEvaluable};
 
-/// Why an evaluation has no result.
-#[derive(Clone, Copy, Debug, PartialEq, Eq)]
-pub enum EvalFault {
-    /// A result is outside 64 signed bits.
-    Overflow,
-    /// A number is divided by 0.
-    DivZero,
-    /// It takes more than 10,000,000 steps. Each node of an expression that is begun is one.
-    Steps,
-}
+use crate::number::{decided, is_true, negated, operate, truth, turn_count};
+use crate::scope::Scope;
+use crate::{BinOp, EvalFault, Expr, Fun};
 
-// How many nodes one evaluation may begin.
-const MOST: u64 = 10_000_000;
+const MOST_BEGUN: u64 = 10_000_000;
 
-// The value of an expression, where `spent` nodes were begun before it.
-pub fn value(e: &Expr, args: &[i64], spent: &mut u64) -> Result<i64, EvalFault>
-    requires slots { HasSlotsBelow (length args.now) e.now }
-    requires spent { spent.old ≤ 10000000 }
-    ensures value { result ≡ limited spent.old (value_of args.now e.now) }
-    ensures cost { OnOk result (spent.new ≡ spent.old + (value_of args.now e.now).begun) }
-    ensures spent { spent.new ≤ 10000000 }
+// The value of an expression that may call the functions in `known`.
+#[cycle(value)]
+pub fn value(known: &[Fun], e: &Expr, scope: &mut Scope, spent: &mut u64) -> Result<i64, EvalFault>
+    requires known { AreFuns known.now }
+    requires fits { IsEvaluable known.now (length scope.old) e.now }
+    ensures value { ended result spent.new ≡ spend spent.old (value_over known.now e.now scope.old) }
+    ensures scope { OnOk result (scope.new ≡ scope.old) }
 {
-    if *spent == MOST {
+    if *spent >= MOST_BEGUN {
         return Err(EvalFault::Steps);
     }
     *spent += 1;
     match e {
         Expr::Lit(n) => Ok(*n),
-        Expr::Slot(k) => Ok(args[*k as usize]),
-        Expr::Bin(op, a, b) => {
-            let x = value(a.get(), args, spent)?;
-            let y = value(b.get(), args, spent)?;
-            apply(*op, x, y)
+        Expr::Slot(at) => Ok(scope.get(*at)),
+        Expr::Neg(a) => negated(value(known, a.get(), scope, spent)?),
+        Expr::Not(a) => Ok(truth(!is_true(value(known, a.get(), scope, spent)?))),
+        Expr::Bin(op, a, b) => binary(known, *op, a.get(), b.get(), scope, spent),
+        Expr::If(c, a, b) => choice(known, c.get(), a.get(), b.get(), scope, spent),
+        Expr::Let(a, b) => binding(known, a.get(), b.get(), scope, spent),
+        Expr::Loop(n, s, e) => looping(known, n.get(), s.get(), e.get(), scope, spent),
+        Expr::Call(f, args) => calling(known, *f, args.as_slice(), scope, spent),
+    }
+}
+
+// Two operands and their operator; of `and` and `or` the second only where the first doesn't decide.
+#[cycle(value)]
+fn binary(
+    known: &[Fun],
+    op: BinOp,
+    a: &Expr,
+    b: &Expr,
+    scope: &mut Scope,
+    spent: &mut u64,
+) -> Result<i64, EvalFault>
+    requires known { AreFuns known.now }
+    requires a { IsEvaluable known.now (length scope.old) a.now }
+    requires b { IsEvaluable known.now (length scope.old) b.now }
+    ensures value { ended result spent.new ≡ spend spent.old (binary_over known.now op a.now b.now scope.old) }
+    ensures scope { OnOk result (scope.new ≡ scope.old) }
+{
+    let x = value(known, a, scope, spent)?;
+    match decided(op, x) {
+        Some(y) => Ok(y),
+        None => {
+            let y = value(known, b, scope, spent)?;
+            operate(op, x, y)
         }
     }
 }
 
-fn apply(op: BinOp, x: i64, y: i64) -> Result<i64, EvalFault>
-    ensures { result ≡ applied op x y }
+// A condition and one branch.
+#[cycle(value)]
+fn choice(
+    known: &[Fun],
+    c: &Expr,
+    a: &Expr,
+    b: &Expr,
+    scope: &mut Scope,
+    spent: &mut u64,
+) -> Result<i64, EvalFault>
+    requires known { AreFuns known.now }
+    requires c { IsEvaluable known.now (length scope.old) c.now }
+    requires a { IsEvaluable known.now (length scope.old) a.now }
+    requires b { IsEvaluable known.now (length scope.old) b.now }
+    ensures value { ended result spent.new ≡ spend spent.old (choice_over known.now c.now a.now b.now scope.old) }
+    ensures scope { OnOk result (scope.new ≡ scope.old) }
 {
-    match op {
-        BinOp::Add => x.checked_add(y),
-        BinOp::Sub => x.checked_sub(y),
-        BinOp::Mul => x.checked_mul(y),
+    if is_true(value(known, c, scope, spent)?) {
+        value(known, a, scope, spent)
+    } else {
+        value(known, b, scope, spent)
     }
-    .ok_or(EvalFault::Overflow)
+}
+
+// The value of a variable, and the body in which it is in scope.
+#[cycle(value)]
+fn binding(
+    known: &[Fun],
+    a: &Expr,
+    b: &Expr,
+    scope: &mut Scope,
+    spent: &mut u64,
+) -> Result<i64, EvalFault>
+    requires known { AreFuns known.now }
+    requires room { length scope.old < 32 }
+    requires a { IsEvaluable known.now (length scope.old) a.now }
+    requires b { IsEvaluable known.now (length scope.old + 1) b.now }
+    ensures value { ended result spent.new ≡ spend spent.old (binding_over known.now a.now b.now scope.old) }
+    ensures scope { OnOk result (scope.new ≡ scope.old) }
+{
+    let x = value(known, a, scope, spent)?;
+    scope.push(x);
+    let y = value(known, b, scope, spent)?;
+    scope.leave(1);
+    Ok(y)
+}
+
+// The turns of a loop, each with its number and the value so far in scope.
+#[cycle(value)]
+fn looping(
+    known: &[Fun],
+    n: &Expr,
+    s: &Expr,
+    e: &Expr,
+    scope: &mut Scope,
+    spent: &mut u64,
+) -> Result<i64, EvalFault>
+    requires known { AreFuns known.now }
+    requires room { length scope.old + 1 < 32 }
+    requires n { IsEvaluable known.now (length scope.old) n.now }
+    requires s { IsEvaluable known.now (length scope.old) s.now }
+    requires e { IsEvaluable known.now (length scope.old + 2) e.now }
+    ensures value { ended result spent.new ≡ spend spent.old (looping_over known.now n.now s.now e.now scope.old) }
+    ensures scope { OnOk result (scope.new ≡ scope.old) }
+{
+    let count = turn_count(value(known, n, scope, spent)?);
+    let mut last = value(known, s, scope, spent)?;
+    for i in 0..count {
+        scope.push(i as i64);
+        scope.push(last);
+        last = value(known, e, scope, spent)?;
+        scope.leave(2);
+    }
+    Ok(last)
+}
+
+// The arguments, which make the scope of the function that is called.
+#[cycle(value)]
+fn calling(
+    known: &[Fun],
+    f: u32,
+    args: &[Expr],
+    scope: &mut Scope,
+    spent: &mut u64,
+) -> Result<i64, EvalFault>
+    requires known { AreFuns known.now }
+    requires fits { widths_of known.now f ≡ Some (length args.now, 1) }
+    requires args { AreEvaluable known.now (length scope.old) args.now }
+    ensures value { ended result spent.new ≡ spend spent.old (calling_over known.now f args.now scope.old) }
+    ensures scope { OnOk result (scope.new ≡ scope.old) }
+{
+    let at = f as usize;
+    let mut inner = Scope::new();
+    for arg in args {
+        inner.push(value(known, arg, scope, spent)?);
+    }
+    let results = known[at].results.as_slice();
+    value(&known[..at], &results[0], &mut inner, spent)
 }

@@ -1,10 +1,19 @@
-//! The whole-number functions of a script, and their evaluation.
+// Functions of whole numbers, and their evaluation.
 #![tactic(auto)]
 
+mod build;
 mod eval;
 mod expr;
+mod fault;
 mod funs;
+pub mod laws;
+mod muscle;
+mod number;
+mod scope;
+#[cfg(test)]
+mod tests;
 
-pub use eval::EvalFault;
 pub use expr::{BinOp, Expr, Exprs};
-pub use funs::{Fun, Funs, Muscle, Names};
+pub use fault::EvalFault;
+pub use funs::{Fun, Funs, Names};
+pub use muscle::{Muscle, Use};

@@ -1,36 +1,27 @@
 -- Scripts of the first form: one function of one parameter, and `main` over it.
-use Rattle.std.specs.Prelude.{ℕ, ℤ, pos, ◌≡◌, ◌+◌, ◌<◌, ◌≤◌, Bool, ◌&&◌, not, nat_le, IsTrue, List, [], ◌∷◌, ◌++◌, length, codes}
-use Rattle.std.specs.List.{list_all, list_any}
-use Rattle.std.specs.Str.{bytes_eq}
+use Rattle.std.specs.Prelude.{ℕ, ℤ, pos, ◌≡◌, ◌+◌, ◌<◌, ◌≤◌, Bool, ◌&&◌, nat_le, IsTrue, List, [], ◌∷◌, ◌++◌, length, codes}
+use Rattle.std.specs.List.{list_all}
+use Rattle.msl_muscle.specs.Checks as checks
 use Rattle.msl_muscle.specs.declared.funs.Fun.{Fun}
 use Rattle.msl_muscle.specs.declared.expr.Expr.{Expr}
 use Rattle.msl_muscle.specs.declared.expr.Expr.TheVariants.{Lit, Slot, Bin}
-use Rattle.msl_muscle.specs.declared.expr.BinOp.{BinOp}
-use Rattle.msl_muscle.specs.declared.expr.BinOp.TheVariants.{Add, Sub, Mul}
 use Rattle.msl_run.specs.declared.form.Term.{Term}
 use Rattle.msl_run.specs.declared.form.Term.TheVariants.{Param, Digit}
+use Rattle.msl_run.specs.Operators.{bin_op}
+use Rattle.msl_run.specs.declared.form.Operator.{Operator}
+use Rattle.msl_run.specs.declared.form.Operator.TheVariants.{Plus, Minus, Times}
 use Rattle.msl_run.specs.declared.form.Body.{Body}
 use Rattle.msl_run.specs.declared.form.Body.TheVariants.{One, Two}
 use Rattle.msl_run.specs.declared.script.Script.{Script}
 use Rattle.msl_run.specs.declared.script.Stage.TheVariants.{Atomic}
 
--- the words that are no names, as far as they have at most 8 small letters and nothing else
-abbrev pub reserved : List (List ℕ)
-reserved =
-    codes "muesli" ∷ codes "main" ∷ codes "fun" ∷ codes "if" ∷ codes "then" ∷ codes "else" ∷ codes "let" ∷ codes "in" ∷ codes "loop" ∷ codes "below"
-    ∷ codes "or" ∷ codes "and" ∷ codes "not" ∷ codes "min" ∷ codes "max" ∷ codes "data" ∷ codes "give" ∷ codes "array" ∷ codes "at" ∷ codes "len"
-    ∷ codes "matrix" ∷ codes "grid" ∷ codes "map" ∷ codes "zip" ∷ codes "fold" ∷ codes "scan" ∷ codes "foldl" ∷ codes "permute" ∷ codes "filter"
-    ∷ codes "state" ∷ codes "count" ∷ codes "item" ∷ codes "next" ∷ codes "flush" ∷ codes "last" ∷ codes "divcon" ∷ codes "parts" ∷ codes "cutoff"
-    ∷ codes "simple" ∷ codes "solve" ∷ codes "divide" ∷ codes "combine" ∷ codes "bnb" ∷ codes "bound" ∷ codes "solved" ∷ codes "value" ∷ codes "branch"
-    ∷ codes "atomic" ∷ codes "on" ∷ codes "farm" ∷ codes "pipe" ∷ []
-
 -- a small letter, a to z
 abbrev pub is_letter : ℕ → Bool
 is_letter c = nat_le 97 c && nat_le c 122
 
--- 1 to 8 small letters, and no reserved word
+-- a name of 1 to 8 small letters
 abbrev pub is_name : List ℕ → Bool
-is_name word = nat_le 1 (length word) && (nat_le (length word) 8 && (list_all is_letter word && not (list_any (λ r. bytes_eq r word) reserved)))
+is_name word = checks.is_name word && (nat_le (length word) 8 && list_all is_letter word)
 
 -- what a script of the first form says: the names of its function and its parameter, and the function's body
 pub record Form : Type 0 where
@@ -44,10 +35,10 @@ abbrev pub term_text : List ℕ → Term → List ℕ
 term_text param Param = param
 term_text param (Digit d) = (48 + d) ∷ []
 
-abbrev pub sign : BinOp → List ℕ
-sign Add = codes " + "
-sign Sub = codes " - "
-sign Mul = codes " * "
+abbrev pub sign : Operator → List ℕ
+sign Plus = codes " + "
+sign Minus = codes " - "
+sign Times = codes " * "
 
 abbrev pub body_text : List ℕ → Body → List ℕ
 body_text param (One a) = term_text param a
@@ -81,7 +72,7 @@ term_expr (Digit d) = Lit (pos d)
 
 abbrev pub body_expr : Body → Expr
 body_expr (One a) = term_expr a
-body_expr (Two a op b) = Bin op (term_expr a) (term_expr b)
+body_expr (Two a op b) = Bin (bin_op op) (term_expr a) (term_expr b)
 
 abbrev pub fun_of : Form → Fun
 fun_of f = record { name = f.name; params = f.param ∷ []; results = body_expr f.body ∷ []; names = [] }

@@ -3,6 +3,7 @@ pub mod FirstForm
 pub mod FormReading
 pub mod Headline
 pub mod Messages
+pub mod Operators
 pub mod Places
 pub mod Stages
 pub mod Steps

@@ -7,8 +7,8 @@ use Rattle.msl_base.specs.declared.fault.Fault.{Fault}
 use Rattle.msl_base.specs.declared.fault.Fault.TheVariants as faults
 use Rattle.msl_base.specs.Streams.{Record, Outcome, Stream, Pointwise, pointwise}
 use Rattle.msl_muscle.specs.declared.funs.Fun.{Fun}
-use Rattle.msl_muscle.specs.declared.eval.EvalFault.{EvalFault}
-use Rattle.msl_muscle.specs.declared.eval.EvalFault.TheVariants.{Overflow, DivZero, Steps}
+use Rattle.msl_muscle.specs.declared.fault.EvalFault.{EvalFault}
+use Rattle.msl_muscle.specs.declared.fault.EvalFault.TheVariants.{Overflow, DivZero, Steps}
 use Rattle.msl_muscle.specs.Meaning.{mean, limited, params_of}
 use Rattle.msl_run.specs.declared.script.Script.{Script}
 use Rattle.msl_run.specs.declared.script.Stage.{Stage}

@@ -1,33 +1,87 @@
 ghost use Rattle.std.specs.Prelude.{◌≡◌, ◌++◌, ◌∷◌, [], ℕ, List, IfOk, IfSome, IsTrue, MatchOption, Some, None, Option, ◌≤◌, length};
 ghost use Rattle.std.specs.List.{list_any, list_all, prefix_len};
 ghost use Rattle.std.specs.Str.{bytes_eq};
-ghost use Rattle.msl_run.specs.FirstForm.{reserved, is_name, is_letter, term_expr, body_expr, script_of, ReadsAs};
+ghost use Rattle.msl_run.specs.FirstForm.{is_name, is_letter, AreDigitsBelow, term_expr, body_expr, script_of, ReadsAs};
+ghost use Rattle.msl_muscle.specs.Checks.{reserved, is_among};
 ghost use Rattle.msl_run.specs.Stages.{HasStages};
 ghost use Rattle.msl_run.specs.declared.script.Script.{Script};
-ghost use Rattle.msl_run.specs.FormReading.{strip, letters, behind_letters, name_front, term_front, param_front, op_front, body_front, signature_front, first_form, form as read_form};
+ghost use Rattle.msl_run.specs.FormReading.{strip, letters, behind_letters, name_front, term_front, param_front, op_front, body_front, signature_front, is_short_name, first_form, form as read_form};
 
-use crate::form::{Body, Term};
+use crate::form::{Body, Operator, Term};
 use crate::script::{Script, Stage};
 use msl_base::{Name, NoMemory};
-use msl_muscle::{BinOp, Expr, Fun, Funs};
+use msl_muscle::{Expr, Fun, Funs};
 use sqlite_items::{Boxed, Items};
 use std::alloc::Global;
 
-/// The words that are no names, as far as they have at most 8 small letters and nothing else.
-pub const RESERVED: [&str; 51] = [
-    "muesli", "main", "fun", "if", "then", "else", "let", "in", "loop", "below", "or", "and",
-    "not", "min", "max", "data", "give", "array", "at", "len", "matrix", "grid", "map", "zip",
-    "fold", "scan", "foldl", "permute", "filter", "state", "count", "item", "next", "flush",
-    "last", "divcon", "parts", "cutoff", "simple", "solve", "divide", "combine", "bnb", "bound",
-    "solved", "value", "branch", "atomic", "on", "farm", "pipe",
+/// The words that are no names.
+pub const RESERVED: [&str; 58] = [
+    "muesli",
+    "main",
+    "fun",
+    "data",
+    "filter",
+    "divcon",
+    "bnb",
+    "if",
+    "then",
+    "else",
+    "let",
+    "in",
+    "loop",
+    "below",
+    "or",
+    "and",
+    "not",
+    "min",
+    "max",
+    "give",
+    "array",
+    "at",
+    "len",
+    "matrix",
+    "grid",
+    "map",
+    "mapIndex",
+    "zip",
+    "zipIndex",
+    "fold",
+    "scan",
+    "foldl",
+    "permutePartition",
+    "permute",
+    "broadcastPartition",
+    "rotateRows",
+    "rotateCols",
+    "transpose",
+    "state",
+    "count",
+    "item",
+    "next",
+    "flush",
+    "last",
+    "parts",
+    "cutoff",
+    "simple",
+    "solve",
+    "divide",
+    "combine",
+    "bound",
+    "solved",
+    "value",
+    "branch",
+    "atomic",
+    "on",
+    "farm",
+    "pipe",
 ];
 
 // Whether one of the words is this one.
 fn is_among(words: &[&str], word: &[u8]) -> bool
-    ensures { result ≡ list_any (λ w. bytes_eq w.now word.now) words.now }
+    ensures { result ≡ list_any (λ w. bytes_eq word.now w.now) words.now }
 {
     for w in words {
-        if w.as_bytes() == word {
+        if word == w.as_bytes() {
             return true;
         }
     }
@@ -35,7 +89,7 @@ fn is_among(words: &[&str], word: &[u8]) -> bool
 }
 
 fn is_reserved(word: &[u8]) -> bool
-    ensures { result ≡ list_any (λ r. bytes_eq r word.now) reserved }
+    ensures { result ≡ is_among reserved word.now }
 {
     is_among(&RESERVED, word)
 }
@@ -48,7 +102,7 @@ fn are_letters(word: &[u8]) -> bool
 }
 
 fn is_name_word(word: &[u8]) -> bool
-    ensures { result ≡ is_name word.now }
+    ensures { result ≡ is_short_name word.now }
 {
     if word.is_empty() || word.len() > 8 || !are_letters(word) {
         return false;
@@ -119,13 +173,13 @@ fn term_in_front<'a>(param: &[u8], text: &'a [u8]) -> Option<(Term, &'a [u8])>
 }
 
 // An operator between two spaces in front, and what follows it.
-fn operator_in_front(text: &[u8]) -> Option<(BinOp, &[u8])>
+fn operator_in_front(text: &[u8]) -> Option<(Operator, &[u8])>
     ensures { MatchOption result (op_front text.now ≡ None) (λ r. op_front text.now ≡ Some (r.0, r.1.now)) }
 {
     match text {
-        [b' ', b'+', b' ', rest @ ..] => Some((BinOp::Add, rest)),
-        [b' ', b'-', b' ', rest @ ..] => Some((BinOp::Sub, rest)),
-        [b' ', b'*', b' ', rest @ ..] => Some((BinOp::Mul, rest)),
+        [b' ', b'+', b' ', rest @ ..] => Some((Operator::Plus, rest)),
+        [b' ', b'-', b' ', rest @ ..] => Some((Operator::Minus, rest)),
+        [b' ', b'*', b' ', rest @ ..] => Some((Operator::Times, rest)),
         _ => None,
     }
 }
@@ -194,6 +248,7 @@ pub fn read_script(alloc: Global, text: &[u8]) -> Result<Option<Script>, NoMemor
 fn script_of_form(alloc: Global, form: Form<'_>) -> Result<Script, NoMemory>
     requires name { IsTrue (is_name form.name.now) }
     requires param { IsTrue (is_name form.param.now) }
+    requires digits { AreDigitsBelow form.body }
     ensures { IfOk result (λ s. s ≡ script_of (read_form form.entry.name.now form.entry.param.now form.entry.body)) }
 {
     let mut params = Items::new(alloc);
@@ -239,7 +294,7 @@ fn body_expr_of(alloc: Global, body: Body) -> Result<Expr, NoMemory>
     match body {
         Body::One(term) => Ok(term_expr_of(term)),
         Body::Two(first, op, second) => Ok(Expr::Bin(
-            op,
+            op.bin_op(),
             Boxed::new(alloc, term_expr_of(first))?,
             Boxed::new(alloc, term_expr_of(second))?,
         )),

@@ -5,10 +5,10 @@ use Rattle.msl_run.proofs.first_form.is_among.Goals as goal
 
 pub returns-then-eq : goal.returns-then-eq
 returns-then-eq c =
-    found_at (λ (w : Bor (List ℕ)). bytes_eq w.now c.args.word.now) c.args.words.now c.loop-w.w-index (record { ref_ptr = (0, 0); now = [] }) c.loop-w-test.true c.loop-w.invariant
-    (ap (λ (t : List ℕ). bytes_eq t c.args.word.now) (sym c.as_bytes.ensures.value) ∙ sym c.if-eq.ensures)
+    found_at (λ (w : Bor (List ℕ)). bytes_eq c.args.word.now w.now) c.args.words.now c.loop-w.w-index (record { ref_ptr = (0, 0); now = [] }) c.loop-w-test.true c.loop-w.invariant
+    (ap (λ (t : List ℕ). bytes_eq c.args.word.now t) (sym c.as_bytes.ensures.value) ∙ sym c.if-eq.ensures)
 
 pub loop-w-preserved : goal.loop-w-preserved
 loop-w-preserved c =
-    not_at (λ (w : Bor (List ℕ)). bytes_eq w.now c.args.word.now) c.args.words.now c.loop-w.w-index (record { ref_ptr = (0, 0); now = [] }) c.loop-w-test.true c.loop-w.invariant
-    (ap (λ (t : List ℕ). bytes_eq t c.args.word.now) (sym c.as_bytes.ensures.value) ∙ sym c.if-eq.ensures)
+    not_at (λ (w : Bor (List ℕ)). bytes_eq c.args.word.now w.now) c.args.words.now c.loop-w.w-index (record { ref_ptr = (0, 0); now = [] }) c.loop-w-test.true c.loop-w.invariant
+    (ap (λ (t : List ℕ). bytes_eq c.args.word.now t) (sym c.as_bytes.ensures.value) ∙ sym c.if-eq.ensures)

@@ -11,6 +11,10 @@ pub script_of_form-requires-clause-param : goal.script_of_form-requires-clause-p
 script_of_form-requires-clause-param c =
     let f = c.in-Some.form in (first_form-is c.args.text.now (form f.name.now f.param.now f.body) c.in-Some.ensures).param
 
+pub script_of_form-requires-clause-digits : goal.script_of_form-requires-clause-digits
+script_of_form-requires-clause-digits c =
+    let f = c.in-Some.form in (first_form-is c.args.text.now (form f.name.now f.param.now f.body) c.in-Some.ensures).digits
+
 pub returns-in_ok-script_of_form-in-Some-clause-found : goal.returns-in_ok-script_of_form-in-Some-clause-found
 returns-in_ok-script_of_form-in-Some-clause-found c =
     let f = c.in-Some.form in
