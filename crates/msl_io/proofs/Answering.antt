@@ -1,5 +1,5 @@
 -- What the reader's answers say of the bytes that it took.
-use Rattle.std.proofs.Common.{arith, ◌≡◌, ℕ, ◌+◌, ◌<◌, ◌≤◌, List, [], ◌∷◌, ◌++◌, length, ◌==◌, ap, sym, refl, ◌∙◌, subst, Bool, true, false, append_assoc, append-nil, length-append}
+use Rattle.std.proofs.Common.{arith, ◌≡◌, ℕ, ◌<◌, ◌≤◌, List, [], ◌∷◌, ◌++◌, length, ◌==◌, ap, sym, refl, ◌∙◌, subst, Bool, true, false, append_assoc, append-nil, length-append}
 use Rattle.std.proofs.lemmas.Bool.Decides.{nat_tests}
 use Rattle.msl_base.specs.declared.fault.Fault.TheVariants as faults
 use Rattle.msl_io.specs.declared.chunk.Filled.TheVariants as filled
@@ -8,7 +8,7 @@ use Rattle.msl_io.specs.declared.lines.Line.{Line}
 use Rattle.msl_io.specs.declared.lines.Line.TheVariants.{Rec, End, BadRecord, LongLine, WideRecord, ManyLines, ReadFault, NoMemory}
 use Rattle.msl_io.specs.declared.text.Part.TheVariants as part
 use Rattle.msl_io.specs.declared.text.Text.{Text}
-use Rattle.msl_io.specs.Lines.{row, HasNoLf, FirstRow, reading, most_bytes}
+use Rattle.msl_io.specs.Lines.{row, FirstRow, reading, most_bytes}
 use Rattle.msl_io.specs.Reader.{Reads, stop_of, IsCutOff, IsRefused}
 use Rattle.msl_io.specs.Taking.{Took, HasTaken, Fills, TakesPart, Gives, last_stop}
 use Rattle.msl_io.proofs.Rows.{ended_first, unended_first, stream-refused, stream-many, stream-long, part-rest}

@@ -1,11 +1,11 @@
 -- The first line of bytes, and what streams say of it.
-use Rattle.std.proofs.Common.{arith, ◌≡◌, ◌≢◌, ℕ, ◌+◌, ◌<◌, ◌≤◌, List, [], ◌∷◌, ◌++◌, length, ap, sym, refl, ◌∙◌, subst, Bool, true, false, cond, ltb, Ok, Err, append_assoc, append-nil, length-append, inl, inr, ◌⊎◌}
+use Rattle.std.proofs.Common.{arith, ◌≡◌, ◌≢◌, ℕ, ◌+◌, ◌<◌, ◌≤◌, List, [], ◌∷◌, ◌++◌, length, ap, sym, refl, ◌∙◌, subst, Bool, true, false, cond, ltb, Err, append_assoc, append-nil, length-append, inl, inr, ◌⊎◌}
 use Rattle.std.proofs.Math.Logic.{⊎_map}
 use Rattle.std.proofs.lemmas.Bool.{cond-true, cond-false, lt-ltb, le-ltb}
 use Rattle.std.proofs.lemmas.Bool.Decides.{nat_tests, eqb_tells}
 use Rattle.msl_base.specs.declared.fault.Fault.{Fault}
 use Rattle.msl_base.specs.declared.fault.Fault.TheVariants.{ManyLines, LongLine}
-use Rattle.msl_base.specs.Streams.{Record, Outcome, Stream, stream, before, failed, unread}
+use Rattle.msl_base.specs.Streams.{Outcome, stream, failed, unread}
 use Rattle.std.specs.Str.Lines.{strip_carriage_return}
 use Rattle.msl_io.specs.Lines.{Row, row, whole, rows_of, with_byte, HasNoLf, FirstRow, reading, record_of, numbers_of, words, most_bytes, led_by, stream_of, part_of, open_line}
 

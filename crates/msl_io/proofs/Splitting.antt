@@ -1,5 +1,5 @@
 -- The words of a text, and how they are read piece by piece.
-use Rattle.std.proofs.Common.{arith, ◌≡◌, ℕ, ℤ, ◌+◌, ◌<◌, ◌≤◌, min, List, [], ◌∷◌, ◌++◌, length, ap, sym, refl, ◌∙◌, subst, Bool, true, false, cond, ltb, Option, Some, None, ◌==◌, not, ◌&&◌, take, drop, get_or, ◌⊎◌, inl, inr, ⊎_elim, append_assoc, append-nil, length-append, Ok, Err}
+use Rattle.std.proofs.Common.{arith, ◌≡◌, ℕ, ℤ, ◌+◌, ◌<◌, ◌≤◌, List, [], ◌∷◌, ◌++◌, length, ap, sym, refl, ◌∙◌, subst, Bool, true, false, cond, ltb, Option, Some, None, ◌==◌, not, ◌&&◌, take, drop, get_or, ◌⊎◌, inl, inr, ⊎_elim, append_assoc, append-nil, length-append, Ok, Err}
 use Rattle.std.proofs.lemmas.Bool.{cond-true, cond-false, lt-ltb, le-ltb, cases_Bool, or_parts, and_parts, and_cases, not-true, not-false, true≢false}
 use Rattle.std.proofs.lemmas.Bool.Decides.{nat_tests}
 use Rattle.std.proofs.lemmas.List.{take_more, take-append-drop}
@@ -12,7 +12,7 @@ use Rattle.msl_base.specs.declared.fault.Fault.TheVariants as faults
 use Rattle.msl_io.specs.declared.numeral.Word.{Word}
 use Rattle.msl_io.specs.declared.words.Words.{Words}
 use Rattle.msl_io.specs.Lines.{is_blank, is_word, words, number_of, numbers_of, in_front, record_of, most_numbers}
-use Rattle.msl_io.specs.Taking.{is_sign, IsWord, IsSpoilt, IsOpen, Scanned, Closed, Holds, HasNumbers}
+use Rattle.msl_io.specs.Taking.{is_sign, IsWord, IsSpoilt, IsOpen, Scanned, Closed, Holds}
 use Rattle.msl_io.proofs.Digits.{IsStray, stray}
 
 -- ---- parts between blanks

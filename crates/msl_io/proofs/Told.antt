@@ -1,5 +1,5 @@
 -- What follows of bytes that objects tell, from call to call.
-use Rattle.std.proofs.Common.{◌≡◌, List, ℕ, ◌++◌, ◌<◌, length, Option, Some, None}
+use Rattle.std.proofs.Common.{◌≡◌, List, ℕ, ◌++◌, Option, Some, None}
 use Rattle.std.specs.Io.KnownBytes.{Appends, Keeps}
 use Rattle.msl_io.specs.Known.{Told}
 use Rattle.msl_io.specs.Text.{AppendsPart}

@@ -1,4 +1,4 @@
-ghost use Rattle.std.specs.Prelude.{Option, None, List, ℕ, ◌≡◌, ◌≤◌};
+ghost use Rattle.std.specs.Prelude.{Option, None, List, ℕ, ◌≡◌, ◌≤◌, if◌then◌else◌};
 ghost use Rattle.msl_io.specs.Causes.{Rose};
 
 use crate::{Bytes, Failed, Fetched, Library, Sink, Source};
@@ -37,29 +37,35 @@ impl<R: Read> Source for RealSource<R> {
     }
 }
 
-/// A sink over any writer. It counts what the writer fails at, and a write that takes nothing. It tells nothing of
-/// what it took.
+/// A sink over any writer. It counts what the writer fails at, and a write that takes nothing. It tells what the
+/// writer tells, nothing of a file, and what is flushed only right after a flush.
 #[derive(Drop)]
 pub struct RealSink<W: Write> {
     inner: W,
     faults: u64,
+    is_flushed: bool,
 }
 
 impl<W: Write> RealSink<W> {
     /// A sink that no write of has failed yet.
     pub fn new(inner: W) -> RealSink<W> {
-        RealSink { inner, faults: 0 }
+        RealSink {
+            inner,
+            faults: 0,
+            is_flushed: false,
+        }
     }
 }
 
 impl<W: Write> Sink for RealSink<W> {
-    ghost held = { λ s. None };
+    ghost held = { λ s. W.contents s.inner };
 
-    ghost flushed = { λ s. None };
+    ghost flushed = { λ s. if s.is_flushed then W.contents s.inner else None };
 
     ghost faults = { λ s. s.faults };
 
     fn write(&mut self, piece: &[u8]) -> Result<usize, Failed> {
+        self.is_flushed = false;
         match self.inner.write(piece) {
             Ok(n) if n > 0 => Ok(n),
             _ => {
@@ -71,7 +77,10 @@ impl<W: Write> Sink for RealSink<W> {
 
     fn flush(&mut self) -> Result<(), Failed> {
         match self.inner.flush() {
-            Ok(()) => Ok(()),
+            Ok(()) => {
+                self.is_flushed = true;
+                Ok(())
+            }
             Err(_) => {
                 self.faults = self.faults.saturating_add(1);
                 Err(Failed)

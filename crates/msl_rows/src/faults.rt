@@ -50,7 +50,7 @@ fn a_failing_call_ends_the_run(rt: HostRuntime) -> Result<(), Fail> {
 #[test]
 fn every_failing_call_is_told(rt: HostRuntime) -> Result<(), Fail> {
     let text = b"9\n16\n25\n".as_slice();
-    let mut done = 0;
+    let mut done = false;
     for n in 1..12u64 {
         let reads = [n];
         let outside = Outside {
@@ -61,10 +61,10 @@ fn every_failing_call_is_told(rt: HostRuntime) -> Result<(), Fail> {
         let left = run(rt.alloc(), SEQ, SQUARE, b"3\n4\n5\n", &outside)?;
         assert!(rt; text.starts_with(left.out.held()), "read {n}");
         if left.status.code() == 0 {
-            done += 1;
+            done = true;
             assert_eq!(rt; left.out.held(), text, "read {n}");
         } else {
-            assert_eq!(rt; done, 0, "read {n}");
+            assert!(rt; !done, "read {n}");
             assert_eq!(rt; left.status.code(), 3, "read {n}");
             assert_eq!(rt;
                 left.err.held(),
@@ -73,8 +73,8 @@ fn every_failing_call_is_told(rt: HostRuntime) -> Result<(), Fail> {
             );
         }
     }
-    assert!(rt; done > 0);
-    done = 0;
+    assert!(rt; done);
+    done = false;
     for n in 1..12u64 {
         let writes = [n];
         let outside = Outside {
@@ -85,10 +85,10 @@ fn every_failing_call_is_told(rt: HostRuntime) -> Result<(), Fail> {
         let left = run(rt.alloc(), SEQ, SQUARE, b"3\n4\n5\n", &outside)?;
         assert!(rt; text.starts_with(left.out.held()), "write {n}");
         if left.status.code() == 0 {
-            done += 1;
+            done = true;
             assert_eq!(rt; left.out.held(), text, "write {n}");
         } else {
-            assert_eq!(rt; done, 0, "write {n}");
+            assert!(rt; !done, "write {n}");
             assert_eq!(rt; left.status.code(), 3, "write {n}");
             assert_eq!(rt;
                 left.err.held(),
@@ -97,6 +97,6 @@ fn every_failing_call_is_told(rt: HostRuntime) -> Result<(), Fail> {
             );
         }
     }
-    assert!(rt; done > 0);
+    assert!(rt; done);
     Ok(())
 }

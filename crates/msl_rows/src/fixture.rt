@@ -44,7 +44,7 @@ fn calls(alloc: Global, numbers: &[u64]) -> Result<Calls, NoMemory> {
     Ok(Calls::from_vec(Vec::from_slice(alloc, numbers)?))
 }
 
-fn words_of(alloc: Global, words: &[&str]) -> Result<Words, NoMemory> {
+fn words_of(alloc: Global, words: &[&'static str]) -> Result<Words, NoMemory> {
     let mut list = Words::new(alloc);
     for word in words {
         list.add(Name::of(alloc, word)?)?;
@@ -64,7 +64,7 @@ fn library(alloc: Global, script: &str, failing: &[u64]) -> Result<MemLibrary, N
 /// Runs the words over a library that holds `script` under the name `script`.
 pub fn run(
     alloc: Global,
-    words: &[&str],
+    words: &[&'static str],
     script: &str,
     input: &[u8],
     outside: &Outside<'_>,

@@ -1,6 +1,8 @@
 //! Scripts, inputs and what comes of them, where nothing fails.
 
-use crate::fixture::{SQUARE, WORKING, run};
+use crate::fixture::{Left, SQUARE, WORKING, run};
+use msl_base::NoMemory;
+use std::alloc::Global;
 use std::test::Fail;
 
 /// The words, the script, the input; what is written, the message and the status.
@@ -12,6 +14,13 @@ struct Row {
     out: &'static [u8],
     err: &'static [u8],
     code: u8,
+}
+
+impl Row {
+    fn run(&self, alloc: Global) -> Result<Left, NoMemory> {
+        let outside = WORKING;
+        run(alloc, self.words, self.script, self.input, &outside)
+    }
 }
 
 const SEQ: &[&str] = &["seq", "script"];
@@ -62,6 +71,21 @@ fn rows_are_met(rt: HostRuntime) -> Result<(), Fail> {
             1,
         ),
         seq_row(SQUARE, b"3037000499\n", b"9223372030926249001\n", b"", 0),
+        seq_row(SQUARE, b"+007 \r\n5", b"49\n25\n", b"", 0),
+        seq_row(
+            SQUARE,
+            b"1 2\n",
+            b"",
+            b"muesli: stage 1: record of 2 numbers, 1 wanted\n",
+            1,
+        ),
+        seq_row(
+            SQUARE,
+            b"3\n\n",
+            b"9\n",
+            b"muesli: stage 1: record of 0 numbers, 1 wanted\n",
+            1,
+        ),
         seq_row(SQUARE, b"7 x\n", b"", b"muesli: line 1: bad record\n", 1),
         seq_row(
             SQUARE,
@@ -129,14 +153,8 @@ fn rows_are_met(rt: HostRuntime) -> Result<(), Fail> {
         },
     ];
     for row in &rows {
-        let left = run(rt.alloc(), row.words, row.script, row.input, &WORKING)?;
-        assert_eq!(rt;
-            left.status.code(),
-            row.code,
-            "status of {} at {}",
-            row.script,
-            row.words.len()
-        );
+        let left = row.run(rt.alloc())?;
+        assert_eq!(rt; left.status.code(), row.code, "status of {}", row.script);
         assert_eq!(rt; left.out.held(), row.out, "output of {}", row.script);
         assert_eq!(rt; left.err.held(), row.err, "message of {}", row.script);
     }

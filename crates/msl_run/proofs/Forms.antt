@@ -15,7 +15,7 @@ use Rattle.msl_run.specs.declared.form.Term.{Term}
 use Rattle.msl_run.specs.declared.form.Term.TheVariants.{Param, Digit}
 use Rattle.msl_run.specs.declared.form.Body.{Body}
 use Rattle.msl_run.specs.declared.form.Body.TheVariants.{One, Two}
-use Rattle.msl_run.specs.FirstForm.{is_letter, is_name, Form, form_text, term_text, body_text, sign, IsForm, IsDigitBelow, AreDigitsBelow, ReadsAs, script_of}
+use Rattle.msl_run.specs.FirstForm.{is_letter, is_name, Form, term_text, body_text, sign, IsForm, IsDigitBelow, AreDigitsBelow, ReadsAs, script_of}
 use Rattle.msl_run.specs.declared.script.Script.{Script}
 use Rattle.msl_run.specs.FormReading.{strip, is_short_name, letters, behind_letters, name_front, is_digit, param_front, term_front, op_of, op_front, body_front, second_front, signature_front, param_behind, main_behind, body_behind, ending, form, first_form}
 

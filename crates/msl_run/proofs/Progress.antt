@@ -1,11 +1,10 @@
 -- How a run comes to each of its ends.
-use Rattle.std.proofs.Common.{arith, ◌≡◌, ℕ, ◌+◌, ◌<◌, ◌≤◌, List, [], ◌∷◌, ◌++◌, length, ap, sym, refl, ◌∙◌, subst, Bool, true, false, cond, Option, Some, None, Result, Ok, Err, append_assoc, append-nil, ◌⊎◌, inl, inr}
+use Rattle.std.proofs.Common.{◌≡◌, ℕ, ◌+◌, ◌≤◌, List, [], ◌∷◌, ◌++◌, ap, sym, refl, ◌∙◌, subst, Bool, true, false, cond, Option, Some, None, Ok, Err, append_assoc, append-nil}
 use Rattle.msl_base.specs.declared.fault.Fault.{Fault}
 use Rattle.msl_base.specs.declared.fault.Fault.TheVariants as faults
-use Rattle.msl_base.specs.declared.rec.Rec.{Rec}
-use Rattle.msl_base.specs.Streams.{Record, Outcome, Ending, done, failed, unread, Stream, stream, before, pointwise}
+use Rattle.msl_base.specs.Streams.{Record, Outcome, done, failed, unread, Stream, stream, before, pointwise}
 use Rattle.msl_base.proofs.StreamLaws.{pointwise-good, pointwise-bad, before-before}
-use Rattle.msl_io.specs.Lines.{Row, row, whole, rows_of, FirstRow, HasNoLf, reading, led_by, stream_of, part_of, reads, part, most_lines}
+use Rattle.msl_io.specs.Lines.{Row, row, rows_of, FirstRow, HasNoLf, reading, led_by, stream_of, part_of, reads, most_lines}
 use Rattle.msl_io.specs.Reader.{Reads, GivesRecord, stop_of}
 use Rattle.msl_io.specs.Text.{text, text_of}
 use Rattle.msl_io.specs.declared.lines.Line.{Line}

@@ -1,5 +1,5 @@
 -- What scripts mean, from the functions that their stages are, and what is said of a run of a script's text.
-use Rattle.std.proofs.Common.{arith, ◌≡◌, ℕ, ◌<◌, ◌≤◌, List, [], ◌∷◌, length, ap, sym, refl, ◌∙◌, subst, Bool, true, false, ◌&&◌, Option, Some, None, ◌⊎◌, inl, inr, pos}
+use Rattle.std.proofs.Common.{arith, ◌≡◌, ℕ, ◌<◌, ◌≤◌, List, [], ◌∷◌, length, ap, sym, refl, ◌∙◌, subst, Bool, true, false, ◌&&◌, Option, Some, None, inl, pos}
 use Rattle.std.specs.Prelude.{int_le, nat_le}
 use Rattle.std.specs.List.{list_all}
 use Rattle.std.proofs.lemmas.Bool.Decides.{nat_tests}

@@ -1,5 +1,5 @@
 -- Tests of words, as far as a loop over them has come.
-use Rattle.std.proofs.Common.{arith, ◌≡◌, ℕ, ◌+◌, ◌<◌, List, [], ◌∷◌, drop, get_or, Bool, true, false, ap, sym, ◌∙◌, refl, add-one, length, drop-cons, ◌||◌, Option, Some, None}
+use Rattle.std.proofs.Common.{◌≡◌, ℕ, ◌+◌, ◌<◌, List, ◌∷◌, drop, get_or, Bool, true, false, ap, sym, ◌∙◌, add-one, length, drop-cons, ◌||◌, Option, Some, None}
 use Rattle.std.specs.Option.{MatchOption}
 use Rattle.std.specs.List.{list_any}
 

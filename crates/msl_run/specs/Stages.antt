@@ -3,7 +3,6 @@
 --     Runs s k st X Y     Y is a stream that the stage may make of the stream X
 --     seq_one, seq_run    the same with every choice fixed: results in the order of the input
 use Rattle.std.specs.Prelude.{ℕ, ◌≡◌, ◌<◌, ◌==◌, if◌then◌else◌, List, length, Result, Ok, Err}
-use Rattle.msl_base.specs.declared.fault.Fault.{Fault}
 use Rattle.msl_base.specs.declared.fault.Fault.TheVariants as faults
 use Rattle.msl_base.specs.Streams.{Record, Outcome, Stream, Pointwise, pointwise}
 use Rattle.msl_muscle.specs.declared.funs.Fun.{Fun}

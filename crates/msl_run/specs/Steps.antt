@@ -1,5 +1,5 @@
 -- How far a run has come, and what one step of it does.
-use Rattle.std.specs.Prelude.{ℕ, ◌≡◌, ◌+◌, ◌≤◌, ◌⊎◌, List, [], ◌∷◌, ◌++◌, Option, Some, None, Result, Ok, Err, ⊤}
+use Rattle.std.specs.Prelude.{ℕ, ◌≡◌, ◌≤◌, ◌⊎◌, List, [], ◌++◌, Option, Some, None, Result, Ok, Err, ⊤}
 use Rattle.std.specs.Io.KnownBytes.{Appends, Keeps}
 use Rattle.msl_base.specs.declared.fault.Fault.TheVariants as faults
 use Rattle.msl_base.specs.declared.rec.Rec.{Rec}
@@ -13,7 +13,7 @@ use Rattle.msl_io.specs.declared.lines.Line.TheVariants as line
 use Rattle.msl_io.specs.declared.lines.Stop.{Stop}
 use Rattle.msl_io.specs.declared.lines.Stop.TheVariants as stop
 use Rattle.msl_run.specs.declared.status.Status.{Status}
-use Rattle.msl_run.specs.declared.status.Status.TheVariants.{Done, Usage, Library, Unbuilt, Stream as Faulted, Read, Write, Memory}
+use Rattle.msl_run.specs.declared.status.Status.TheVariants.{Done, Stream as Faulted, Read, Write, Memory}
 use Rattle.msl_run.specs.declared.sequence.Step.{Step}
 use Rattle.msl_run.specs.declared.sequence.Step.TheVariants as step
 

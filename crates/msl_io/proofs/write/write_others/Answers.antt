@@ -1,4 +1,4 @@
-use Rattle.std.proofs.Common.{arith, ◌≡◌, ℕ, List, [], ◌∷◌, ◌++◌, drop, length, ap, ◌∙◌, sym, append-nil, length-append}
+use Rattle.std.proofs.Common.{arith, ◌≡◌, ℕ, List, [], ◌++◌, drop, length, ap, ◌∙◌, sym, append-nil}
 use Rattle.msl_io.specs.Writing.{others}
 use Rattle.msl_io.proofs.Appending.{part_more, err_last, wrote_same, wrote_next, others-end}
 use Rattle.msl_io.proofs.write.write_others.Goals as goal

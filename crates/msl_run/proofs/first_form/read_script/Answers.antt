@@ -1,5 +1,4 @@
-use Rattle.std.proofs.Common.{◌≡◌, Some}
-use Rattle.msl_run.specs.FormReading.{form, first_form}
+use Rattle.msl_run.specs.FormReading.{form}
 use Rattle.msl_run.proofs.Forms.{first_form-is, first_form-text}
 use Rattle.msl_run.proofs.first_form.read_script.Goals as goal
 

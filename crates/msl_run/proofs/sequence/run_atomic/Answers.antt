@@ -1,4 +1,4 @@
-use Rattle.std.proofs.Common.{rules, arith, ◌≡◌, ◌+◌, ◌++◌, ℕ, List, ap, sym, refl, ◌∙◌, subst, inl, IsNone, IsSome}
+use Rattle.std.proofs.Common.{rules, arith, ◌≡◌, ◌+◌, ◌++◌, ℕ, ap, sym, refl, ◌∙◌, subst, inl, IsNone, IsSome}
 use Rattle.msl_base.specs.Streams.{Record, Outcome}
 use Rattle.msl_io.specs.Known.{Told}
 use Rattle.msl_io.specs.Reader.{Reader, Reads, Counts, ReadCause, MayGoOn, stop_of}

@@ -1,4 +1,4 @@
-use Rattle.std.proofs.Common.{arith, ◌<◌, ℕ, List, take, All, subst, sym}
+use Rattle.std.proofs.Common.{arith, ◌<◌, ℕ, take, subst, sym}
 use Rattle.std.proofs.lemmas.List.{take_more_set}
 use Rattle.std.proofs.lemmas.List.Elements.{All-push}
 use Rattle.msl_base.specs.Paths.{AreSteps}

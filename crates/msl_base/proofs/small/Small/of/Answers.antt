@@ -1,4 +1,4 @@
-use Rattle.std.proofs.Common.{arith, pos, length, ap}
+use Rattle.std.proofs.Common.{pos, length, ap}
 use Rattle.msl_base.proofs.Filling.{IsPadded-made}
 use Rattle.msl_base.proofs.small.Small.of.Goals as goal
 

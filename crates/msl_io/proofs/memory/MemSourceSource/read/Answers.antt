@@ -1,4 +1,4 @@
-use Rattle.std.proofs.Common.{arith, ◌≡◌, ◌<◌, ◌+◌, ◌-◌, ◌≤◌, ◌++◌, ℕ, List, length, take, drop, ap, sym, ◌∙◌, length-drop}
+use Rattle.std.proofs.Common.{arith, ◌≡◌, ◌<◌, ◌+◌, ◌-◌, ◌≤◌, length, take, drop, ap, sym, ◌∙◌, length-drop}
 use Rattle.std.proofs.lemmas.List.{drop_all}
 use Rattle.msl_io.specs.Memory.{SourceView}
 use Rattle.msl_io.proofs.Appending.{rest_of}
