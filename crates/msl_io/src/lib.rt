@@ -3,6 +3,7 @@
 #![tactic(auto)]
 
 mod chunk;
+pub mod laws;
 mod lines;
 mod memory;
 mod numeral;
