@@ -1,5 +1,5 @@
 // A plain program to compare with: reads lines of one number, squares each with an overflow check, and prints it.
-// It checks what the program checks of a line: an optional '-', 1 to 19 digits, a value of 64 signed bits.
+// A line is an optional '-', 1 to 19 digits with a value of 64 signed bits, and LF, which is less than the program takes.
 use std::io::{self, BufRead, BufReader, BufWriter, Write};
 use std::process::ExitCode;
 
