@@ -2,7 +2,7 @@
 #![tactic(auto)]
 
 use msl_base::{Name, NoMemory};
-use msl_io::{RealLibrary, RealSink, RealSource};
+use msl_io::{RealLibrary, RealSink, RealSource, Sink};
 use msl_run::{Status, Words, muesli_plain, tell};
 use std::process::ExitCode;
 use std::rt::Env;
@@ -15,23 +15,33 @@ fn main(rt: HostRuntime) -> io::Result<ExitCode> {
         Ok(words) => {
             let mut lib = RealLibrary::new(rt.clone()?);
             let mut src = RealSource::new(rt.stdin());
-            let mut out = RealSink::new(io::BufWriter::new(alloc, rt.stdout())?);
-            muesli_plain(alloc, &words, &mut lib, &mut src, &mut out, &mut err)
+            match io::BufWriter::new(alloc, rt.stdout()) {
+                Ok(writer) => {
+                    let mut out = RealSink::new(writer);
+                    muesli_plain(alloc, &words, &mut lib, &mut src, &mut out, &mut err)
+                }
+                // It fails for want of memory alone.
+                Err(_) => tell_memory(&mut err),
+            }
         }
-        Err(NoMemory) => {
-            tell(&mut err, &Status::Memory);
-            Status::Memory
-        }
+        Err(NoMemory) => tell_memory(&mut err),
     };
     Ok(ExitCode::from(status.code()))
+}
+
+fn tell_memory<E: Sink>(err: &mut E) -> Status {
+    tell(err, &Status::Memory);
+    Status::Memory
 }
 
 // The words of the command line, without the program's name. Where one of them isn't text there is no command, as
 // where there is no word.
 fn words<R: Env + AllocGlobal>(rt: &R) -> Result<Words, NoMemory> {
     let mut words = Words::new(rt.alloc());
-    let Ok(args) = env::args(rt) else {
-        return Ok(words);
+    let args = match env::args(rt) {
+        Ok(args) => args,
+        Err(e) if e.kind() == io::ErrorKind::OutOfMemory => return Err(NoMemory),
+        Err(_) => return Ok(words),
     };
     for arg in args.skip(1) {
         words.add(Name::of(rt.alloc(), arg.as_str())?)?;
