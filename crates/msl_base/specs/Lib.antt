@@ -3,3 +3,4 @@ pub mod Paths
 pub mod Smalls
 pub mod Records
 pub mod Streams
+pub mod Examples

@@ -21,6 +21,11 @@ pub enum Halt {
 }
 
 impl From<NoMemory> for Halt {
+    ghost use Rattle.std.specs.Prelude.{◌≡◌};
+    ghost use Rattle.msl_base.specs.declared.answer.Halt.TheVariants as halt;
+
+    ghost from_gives = { λ _ h. h ≡ halt.NoMemory };
+
     fn from(_: NoMemory) -> Self {
         Halt::NoMemory
     }

@@ -1,7 +1,9 @@
-//! Laws of the definitions, and worked examples. Each function is empty, and its contract is the law.
+//! Laws of the definitions, and worked examples. Each function is empty, and its contract is the law or the examples.
 
-ghost use Rattle.std.specs.Prelude.{◌≡◌, pos, [], ◌∷◌, Ok, Err};
-ghost use Rattle.msl_base.specs.Streams.{Record, Outcome, Stream, Pointwise, Unordered, pointwise, IsFunction, PrefixLaw, Sound};
+ghost use Rattle.std.specs.Prelude.{◌≡◌, pos, [], ◌∷◌};
+ghost use Rattle.msl_base.specs.declared.fault.Fault.TheVariants.{Shape, ManyLines};
+ghost use Rattle.msl_base.specs.Examples.{first_of};
+ghost use Rattle.msl_base.specs.Streams.{Record, Outcome, Stream, stream, done, failed, unread, cut, Pointwise, Unordered, pointwise, IsFunction, PrefixLaw, Sound};
 
 /// Where an outcome is a function of its record, the output stream is a function of the input stream.
 pub fn pointwise_is_a_function()
@@ -21,4 +23,23 @@ pub fn a_whole_output_is_sound()
 /// Results in the order of the input are one of the orders.
 pub fn in_order_is_an_order()
     ensures { (f : Record → Outcome) (X : Stream) → Unordered (λ x r. r ≡ f x) X (pointwise f X) }
+{}
+
+/// Each record by itself, in order. The first fault ends the output; without one the output ends as the input.
+pub fn records_in_order()
+    ensures whole { pointwise first_of (stream ((pos 3 ∷ pos 4 ∷ []) ∷ (pos 5 ∷ []) ∷ []) done) ≡ stream ((pos 3 ∷ []) ∷ (pos 5 ∷ []) ∷ []) done }
+    ensures fault { pointwise first_of (stream ((pos 3 ∷ []) ∷ [] ∷ (pos 5 ∷ []) ∷ []) done) ≡ stream ((pos 3 ∷ []) ∷ []) (failed (Shape 1 0 1)) }
+    ensures refused { pointwise first_of (stream ((pos 3 ∷ []) ∷ []) (failed ManyLines)) ≡ stream ((pos 3 ∷ []) ∷ []) (failed ManyLines) }
+    ensures open { pointwise first_of (stream ((pos 3 ∷ []) ∷ []) unread) ≡ stream ((pos 3 ∷ []) ∷ []) unread }
+{}
+
+/// Of a farm's output the order is open, and results of records behind the one that faults may be in it.
+pub fn records_of_a_farm()
+    ensures turned { Unordered (λ x r. r ≡ first_of x) (stream ((pos 3 ∷ []) ∷ (pos 5 ∷ []) ∷ []) done) (stream ((pos 5 ∷ []) ∷ (pos 3 ∷ []) ∷ []) done) }
+    ensures fault { Unordered (λ x r. r ≡ first_of x) (stream ((pos 3 ∷ []) ∷ [] ∷ (pos 5 ∷ []) ∷ []) done) (stream ((pos 5 ∷ []) ∷ (pos 3 ∷ []) ∷ []) (failed (Shape 1 0 1))) }
+{}
+
+/// An output that was given up is sound where it is a beginning.
+pub fn a_beginning_is_sound()
+    ensures { Sound (Pointwise (λ x r. r ≡ first_of x)) (stream ((pos 3 ∷ []) ∷ (pos 5 ∷ []) ∷ []) done) (stream ((pos 3 ∷ []) ∷ []) cut) }
 {}

@@ -1,4 +1,4 @@
-ghost use Rattle.std.specs.Prelude.{◌≡◌, ◌+◌, ◌<◌, ◌≤◌, [], ◌∷◌, ◌++◌, IfOk, OnOk, OnErr};
+ghost use Rattle.std.specs.Prelude.{◌≡◌, ◌+◌, ◌-◌, ◌<◌, ◌≤◌, [], ◌∷◌, ◌++◌, IfOk, OnOk, OnErr};
 
 use crate::NoMemory;
 use std::alloc::Global;
@@ -42,22 +42,24 @@ impl Rec {
         Ok(Rec { numbers, spare: 0 })
     }
 
-    /// Appends a number, or leaves the numbers where memory runs out. The spare room is open afterwards.
+    /// Appends a number, to the spare room where there is any. Where memory runs out, which may be only where there is
+    /// none, the record is left as it was.
     pub fn push(&mut self, x: i64) -> Result<(), NoMemory>
         ensures ok { OnOk result (self.new.numbers ≡ self.old.numbers ++ x ∷ []) }
-        ensures err { OnErr result (self.new.numbers ≡ self.old.numbers) }
+        ensures room { OnOk result (self.new.spare ≡ self.old.spare - 1) }
+        ensures err { OnErr result ((self.old.spare ≡ 0) × (self.new ≡ self.old)) }
     {
-        self.spare = 0;
         self.numbers.push(x)?;
+        self.spare = self.spare.saturating_sub(1);
         Ok(())
     }
 
-    /// Makes room for `n` more numbers. Where memory runs out, the spare room is open afterwards.
+    /// Makes room for `n` more numbers, or leaves the record where memory runs out.
     pub fn reserve(&mut self, n: usize) -> Result<(), NoMemory>
         ensures same { self.new.numbers ≡ self.old.numbers }
         ensures room { OnOk result (n ≤ self.new.spare) }
+        ensures err { OnErr result (self.new ≡ self.old) }
     {
-        self.spare = 0;
         self.numbers.reserve(n)?;
         self.spare = n;
         Ok(())
