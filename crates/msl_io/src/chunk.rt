@@ -39,6 +39,7 @@ impl Model for Chunk {
 }
 
 impl Chunk {
+    /// A chunk with no byte. It fails for want of memory alone.
     pub fn new(alloc: Global) -> Result<Chunk, NoMemory>
         ensures { IfOk result (λ chunk. chunk ≡ []) }
     {

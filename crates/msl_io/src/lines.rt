@@ -31,15 +31,22 @@ pub enum Line {
     NoMemory,
 }
 
-/// Why a reader reads no more: each answer but a record.
+/// Why a reader reads no more: each answer of `Line` but a record.
 #[derive(Clone, Copy, Debug, PartialEq, Eq)]
 pub enum Stop {
+    /// No line is left.
     End,
+    /// The line of this number is no record.
     BadRecord(u32),
+    /// The line of this number has too many bytes.
     LongLine(u32),
+    /// The line of this number has too many words.
     WideRecord(u32),
+    /// There are too many lines.
     ManyLines,
+    /// The source failed.
     ReadFault,
+    /// Memory ran out.
     NoMemory,
 }
 

@@ -184,10 +184,12 @@ impl Sink for MemSink {
     }
 }
 
-/// A file: its name and its bytes.
+/// A file.
 #[derive(Debug, Drop)]
 pub struct File {
+    /// What it is fetched by.
     pub name: Name,
+    /// What is in it.
     pub bytes: Bytes,
 }
 

@@ -92,5 +92,6 @@ fn adapters_reach_files(rt: HostRuntime) -> Result<(), Fail> {
     }
     assert!(rt; matches!(&library.fetch(rt.alloc(), "numbers", 4), Fetched::Long));
     assert!(rt; matches!(&library.fetch(rt.alloc(), "nothing", 4), Fetched::Failed));
+    fs::remove_file(&rt, "numbers")?;
     Ok(())
 }
