@@ -3,12 +3,12 @@ use Rattle.std.proofs.Common.{arith, ◌≡◌, ◌≢◌, ℕ, ◌+◌, ◌-◌
 use Rattle.std.proofs.lemmas.Bool.{cond-true, cond-false}
 use Rattle.std.proofs.lemmas.List.{take_more, get_or_at, take_at, take_all, take-append-drop, length-take-le, drop_more, drop_all}
 use Rattle.std.specs.Str.Lines.{strip_carriage_return}
-use Rattle.msl_io.specs.declared.numeral.Word.{Word}
 use Rattle.msl_io.specs.declared.text.Text.{Text}
 use Rattle.msl_io.specs.declared.words.Words.{Words}
 use Rattle.msl_io.specs.declared.text.Part.TheVariants as part
 use Rattle.msl_io.specs.Lines.{HasNoLf, most_bytes}
 use Rattle.msl_io.specs.Taking.{HasTaken, IsLineEnd, Scanned, TakesPart}
+use Rattle.msl_io.proofs.Splitting.{scanned_stray}
 
 -- ---- no LF
 
@@ -32,10 +32,11 @@ strip_push xs b =
     ∙ ap (λ (c : ℕ). cond (c == 13) (take (length xs) whole) whole) (get_or_at xs b [] 0 (length xs) refl)
     ∙ ap (λ (t : List ℕ). cond (b == 13) t whole) (take_at xs (b ∷ []) (length xs) refl)
 
--- a CR that more follows belongs to the text
-pub scanned_cr : (taken : List ℕ) (old : Text) (w : Words) (word : Word) (h : HasTaken taken old) → old.cr ≡ true → Scanned (h.text ++ 13 ∷ []) w word → Scanned taken w word
-scanned_cr taken old w word h cr s =
-    subst (λ (t : List ℕ). Scanned t w word) (sym (h.split ∙ ap (λ (b : Bool). h.text ++ cond b (13 ∷ []) []) cr)) s
+-- a CR that more follows belongs to the text, and no word has it
+pub scanned_cr : (taken : List ℕ) (old : Text) (w : Words) (h : HasTaken taken old) → old.cr ≡ true → w.bad ≡ true → Scanned taken w old.word
+scanned_cr taken old w h cr bad =
+    subst (λ (t : List ℕ). Scanned t w old.word) (sym (h.split ∙ ap (λ (b : Bool). h.text ++ cond b (13 ∷ []) []) cr))
+    (scanned_stray h.text old.words w old.word old.word 13 refl bad (λ bytes is. (refl, λ none. (refl, refl))) h.scanned)
 
 pub scanned_whole : (taken : List ℕ) (old : Text) (h : HasTaken taken old) → old.cr ≡ false → Scanned taken old.words old.word
 scanned_whole taken old h cr =

@@ -92,7 +92,7 @@ impl Text {
             return Ok(());
         };
         if self.cr {
-            self.word = self.words.take(self.word, b"\r")?;
+            self.words.refuse();
         }
         self.cr = *last == b'\r';
         self.len += bytes.len();

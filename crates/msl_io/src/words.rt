@@ -36,6 +36,7 @@ impl Words {
     }
 
     /// Takes more of a text. `word` is the word that may go on; the answer is the one that may then.
+    #[inline(always)]
     pub fn take(&mut self, word: Word, text: &[u8]) -> Result<Word, NoMemory>
         ensures { IfOk result (λ next. (before : List ℕ) → Scanned before self.old word → Scanned (before ++ text.now) self.new next) }
     {
@@ -73,6 +74,7 @@ impl Words {
     }
 
     /// Takes the word that might have gone on as a whole one.
+    #[inline]
     pub fn close(&mut self, word: Word) -> Result<(), NoMemory>
         ensures { OnOk result ((text : List ℕ) → Scanned text self.old word → Closed text self.new) }
     {
@@ -108,8 +110,8 @@ impl Words {
         }
     }
 
-    // Keeps only that the text is no record's.
-    fn refuse(&mut self)
+    /// Takes a byte that no word has, so that the text is no record's.
+    pub fn refuse(&mut self)
         ensures { self.new.bad ≡ true }
     {
         self.numbers = Rec::new(self.alloc);

@@ -23,21 +23,20 @@ pub fn write_rec<K: Sink>(sink: &mut K, xs: &[i64]) -> Result<(), WriteFault>
         [x, others @ ..] => {
             let mut piece = Piece::new();
             piece.push_number(x);
-            write_others(sink, piece, others)
+            write_others(sink, &mut piece, others)
         }
     }
 }
 
 // Writes a piece, a space before each number, and LF after the last.
-fn write_others<K: Sink>(sink: &mut K, first: Piece, xs: &[i64]) -> Result<(), WriteFault>
-    requires { length first ≤ 20 }
-    ensures ok { OnOk result (Appends (K.held sink.old) (K.held sink.new) (first ++ others xs.now)) }
-    ensures err { OnErr result (AppendsPart (K.held sink.old) (K.held sink.new) (first ++ others xs.now)) }
+fn write_others<K: Sink>(sink: &mut K, piece: &mut Piece, xs: &[i64]) -> Result<(), WriteFault>
+    requires { length piece.old ≤ 20 }
+    ensures ok { OnOk result (Appends (K.held sink.old) (K.held sink.new) (piece.old ++ others xs.now)) }
+    ensures err { OnErr result (AppendsPart (K.held sink.old) (K.held sink.new) (piece.old ++ others xs.now)) }
     ensures cause { HasCause (K.faults sink.old) (K.faults sink.new) result }
 {
-    let mut piece = first;
     for x in xs {
-        match make_room(sink, &mut piece) {
+        match make_room(sink, piece) {
             Ok(()) => {}
             Err(fault) => return Err(fault),
         }

@@ -4,6 +4,6 @@ use Rattle.msl_io.proofs.write.write_others.Given as goal
 
 abbrev pub invariant-loop-x : goal.invariant-loop-x
 invariant-loop-x g l = record {
-  wrote : Wrote (g.K.Sink.held l.fn.sink) (g.K.Sink.held l.sink) (g.K.Sink.faults l.fn.sink) (g.K.Sink.faults l.sink) (l.fn.first ++ others l.xs) (l.piece ++ others (drop l.x-index l.xs));
+  wrote : Wrote (g.K.Sink.held l.fn.sink) (g.K.Sink.held l.sink) (g.K.Sink.faults l.fn.sink) (g.K.Sink.faults l.sink) (l.fn.piece ++ others l.xs) (l.piece ++ others (drop l.x-index l.xs));
   room : length l.piece + 1 ≤ 320;
 }
