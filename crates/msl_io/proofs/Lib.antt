@@ -6,3 +6,4 @@ pub mod Rows
 pub mod Splitting
 pub mod Taking
 pub mod Told
+pub mod Decimals

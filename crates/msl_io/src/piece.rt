@@ -1,7 +1,7 @@
 ghost use Rattle.std.specs.Prelude.{◌≡◌, ◌+◌, ◌≤◌, ◌<◌, [], ◌∷◌, ◌++◌, length, decimal};
 ghost use Rattle.std.specs.Fmt.{signed_decimal};
 
-use itoa::Buffer;
+use itoa::write_digits;
 use std::marker::Model;
 
 /// How many bytes a piece may have.
@@ -77,8 +77,7 @@ impl Piece {
         ensures short { length self.new ≤ length self.old + 20 }
         ensures small { n < 100 → length self.new ≤ length self.old + 2 }
     {
-        let mut buffer = Buffer::new();
-        self.push_bytes(buffer.format(n).as_bytes());
+        self.push_digits(n);
     }
 
     /// Appends a signed number in decimal, which has at most 20 bytes.
@@ -87,7 +86,30 @@ impl Piece {
         ensures text { self.new ≡ self.old ++ signed_decimal x.now }
         ensures short { length self.new ≤ length self.old + 20 }
     {
-        let mut buffer = Buffer::new();
-        self.push_bytes(buffer.format(*x).as_bytes());
+        if *x < 0 {
+            self.push(b'-');
+        }
+        self.push_digits(x.unsigned_abs());
+    }
+
+    // Appends a number in decimal.
+    fn push_digits(&mut self, n: u64)
+        requires { length self.old + length (decimal n) ≤ 320 }
+        ensures text { self.new ≡ self.old ++ decimal n }
+        ensures size { length self.new ≡ length self.old + length (decimal n) }
+    {
+        let end = self.len + digit_count(n);
+        write_digits(n, &mut self.bytes, end);
+        self.len = end;
+    }
+}
+
+// How many digits a number has in decimal.
+fn digit_count(n: u64) -> usize
+    ensures { result ≡ length (decimal n) }
+{
+    match n.checked_ilog10() {
+        Some(power) => power as usize + 1,
+        None => 1,
     }
 }
