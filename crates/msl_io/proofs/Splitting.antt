@@ -1,18 +1,23 @@
 -- The words of a text, and how they are read piece by piece.
-use Rattle.std.proofs.Common.{arith, ◌≡◌, ℕ, ℤ, ◌+◌, ◌<◌, ◌≤◌, List, [], ◌∷◌, ◌++◌, length, ap, sym, refl, ◌∙◌, subst, Bool, true, false, cond, ltb, Option, Some, None, ◌==◌, not, ◌&&◌, take, drop, get_or, ◌⊎◌, inl, inr, ⊎_elim, append_assoc, append-nil, length-append, Ok, Err}
+use Rattle.std.proofs.Common.{arith, ◌≡◌, ℕ, ℤ, ◌+◌, ◌-◌, ◌<◌, ◌≤◌, List, [], ◌∷◌, ◌++◌, length, ap, sym, refl, ◌∙◌, subst, Bool, true, false, cond, ltb, Option, Some, None, ◌==◌, not, ◌&&◌, take, drop, get_or, ◌⊎◌, inl, inr, ⊎_elim, append_assoc, append-nil, length-append, Ok, Err}
 use Rattle.std.proofs.lemmas.Bool.{cond-true, cond-false, lt-ltb, le-ltb, cases_Bool, or_parts, and_parts, and_cases, not-true, not-false, true≢false}
 use Rattle.std.proofs.lemmas.Bool.Decides.{nat_tests}
-use Rattle.std.proofs.lemmas.List.{take_more, take-append-drop}
-use Rattle.std.proofs.lemmas.List.Elements.{filter-append, All-push, All-head, All-tail, All-nil}
+use Rattle.std.proofs.lemmas.List.{take-append-drop}
+use Rattle.std.proofs.lemmas.List.Elements.{filter-append, All-append, All-push, All-head, All-tail, All-nil}
+use Rattle.std.proofs.lemmas.Grind.{get_or_default_zero}
 use Rattle.std.proofs.lemmas.Option.{same_Some}
+use Rattle.std.proofs.lemmas.Str.Parse.{digit_at}
 use Rattle.std.proofs.lemmas.List.Splits.{slice_split_none, slice_split-cons_yes, slice_split-cons_no}
 use Rattle.std.specs.Char.{is_ascii_digit}
+use Rattle.std.specs.Int.{IsInRange}
+use Rattle.std.specs.Str.Parse.{AllDigits}
 use Rattle.std.specs.List.{All, filter, slice_split, onto_first}
 use Rattle.msl_base.specs.declared.fault.Fault.TheVariants as faults
 use Rattle.msl_io.specs.declared.numeral.Word.{Word}
 use Rattle.msl_io.specs.declared.words.Words.{Words}
 use Rattle.msl_io.specs.Lines.{is_blank, is_word, words, number_of, numbers_of, in_front, record_of, most_numbers}
-use Rattle.msl_io.specs.Taking.{is_sign, IsWord, IsSpoilt, IsOpen, Scanned, Closed, Holds}
+use Rattle.msl_io.specs.Taking.{is_sign, IsWord, IsSpoilt, IsOpen, Scanned, Closed, Holds, IsDigitsFront}
+use Rattle.msl_io.proofs.Appending.{rest_of}
 use Rattle.msl_io.proofs.Digits.{IsStray, stray}
 
 -- ---- parts between blanks
@@ -152,24 +157,27 @@ scanned_none w word good count kept is = record {
   };
 }
 
--- a byte of a word
-pub scanned_byte : (text : List ℕ) (w : Words) (word next : Word) (b : ℕ) → is_blank b ≡ false → ((bytes : List ℕ) → IsWord word bytes → IsWord next (bytes ++ b ∷ [])) → Scanned text w word → Scanned (text ++ b ∷ []) w next
-scanned_byte text w word next b unbroken step s = record {
-  spoilt = λ bad. spoilt_more text (b ∷ []) (s.spoilt bad);
+-- bytes of a word
+pub scanned_bytes : (text bytes : List ℕ) (w : Words) (word next : Word) → IsUnbroken bytes → ((before : List ℕ) → IsWord word before → IsWord next (before ++ bytes)) → Scanned text w word → Scanned (text ++ bytes) w next
+scanned_bytes text bytes w word next unbroken step s = record {
+  spoilt = λ bad. spoilt_more text bytes (s.spoilt bad);
   good = λ good.
       let o = s.good good in
       record {
         front = o.front;
-        last = o.last ++ b ∷ [];
+        last = o.last ++ bytes;
         numbers = o.numbers;
-        split = ap (λ (t : List ℕ). t ++ b ∷ []) o.split ∙ append_assoc o.front o.last (b ∷ []);
+        split = ap (λ (t : List ℕ). t ++ bytes) o.split ∙ append_assoc o.front o.last bytes;
         cut = o.cut;
-        unbroken = All-push (λ (c : ℕ). is_blank c ≡ false) o.last b o.unbroken unbroken;
+        unbroken = All-append (λ (c : ℕ). is_blank c ≡ false) o.last bytes o.unbroken unbroken;
         spelt = o.spelt;
         holds = o.holds;
         is_word = step o.last o.is_word;
       };
 }
+
+pub scanned_byte : (text : List ℕ) (w : Words) (word next : Word) (b : ℕ) → is_blank b ≡ false → ((bytes : List ℕ) → IsWord word bytes → IsWord next (bytes ++ b ∷ [])) → Scanned text w word → Scanned (text ++ b ∷ []) w next
+scanned_byte text w word next b unbroken = scanned_bytes text (b ∷ []) w word next (All-push (λ (c : ℕ). is_blank c ≡ false) [] b (All-nil (λ (c : ℕ). is_blank c ≡ false)) unbroken)
 
 -- a blank
 pub scanned_blank : (text : List ℕ) (w : Words) (next : Word) (b : ℕ) → is_blank b ≡ true → Closed text w → IsWord next [] → Scanned (text ++ b ∷ []) w next
@@ -257,8 +265,11 @@ scanned_rest text more w word next bad s = record {
   good = λ good. absurd (true≢false (sym bad ∙ good));
 }
 
-pub digit_unbroken : (b : ℕ) → true ≡ is_ascii_digit b → is_blank b ≡ false
+digit_unbroken : (b : ℕ) → IsInRange 48 57 b → is_blank b ≡ false
 digit_unbroken b is = grind (arith, nat_tests)
+
+digits_unbroken : (ds : List ℕ) → AllDigits 10 ds → IsUnbroken ds
+digits_unbroken ds h k d lt = rw (get_or_default_zero ds k d lt) (digit_unbroken (get_or ds k 0) (digit_at ds k h lt))
 
 -- what a word may not have there
 pub stray_word : (word : Word) (b : ℕ) → is_ascii_digit b ≡ false → false ≡ (not word.begun && is_sign b) → (bytes : List ℕ) → IsWord word bytes → IsStray bytes b
@@ -283,21 +294,45 @@ is_a_sign word b is = let s = (and_parts (not word.begun) (is_sign b) (sym is)).
 
 -- ---- a loop over the bytes
 
-module _ (before text : List ℕ) (i : ℕ) (lt : i < length text) where
-  pub taken_more : before ++ take (i + 1) text ≡ (before ++ take i text) ++ get_or text i 0 ∷ []
-  taken_more = ap (λ (t : List ℕ). before ++ t) (take_more text i 0 lt) ∙ sym (append_assoc before (take i text) (get_or text i 0 ∷ []))
+-- from what was scanned before, the text was scanned up to a rest
+pub record Went (old : Words) (from : Word) (text rest : List ℕ) (w : Words) (word : Word) : Type 0 where
+  pub done : List ℕ
+  pub split : text ≡ done ++ rest
+  pub scanned : (before : List ℕ) → Scanned before old from → Scanned (before ++ done) w word
 
-  pub loop_digit : (w : Words) (word next : Word) → true ≡ is_ascii_digit (get_or text i 0) → ((bytes : List ℕ) → IsWord word bytes → IsWord next (bytes ++ get_or text i 0 ∷ [])) → Scanned (before ++ take i text) w word → Scanned (before ++ take (i + 1) text) w next
-  loop_digit w word next is step s =
-      subst (λ (t : List ℕ). Scanned t w next) (sym taken_more) (scanned_byte (before ++ take i text) w word next (get_or text i 0) (digit_unbroken (get_or text i 0) is) step s)
+pub went_none : (w : Words) (word : Word) (text : List ℕ) → Went w word text text w word
+went_none w word text = record {
+  done = [];
+  split = refl;
+  scanned = λ before s. subst (λ (t : List ℕ). Scanned t w word) (sym (append-nil before)) s;
+}
 
-  pub loop_byte : (w : Words) (next : Word) → Scanned ((before ++ take i text) ++ get_or text i 0 ∷ []) w next → Scanned (before ++ take (i + 1) text) w next
-  loop_byte w next s = subst (λ (t : List ℕ). Scanned t w next) (sym taken_more) s
+module _ (old : Words) (from : Word) (text rest : List ℕ) (w : Words) (word : Word) (went : Went old from text rest w word) where
+  -- more of the text
+  went_more : (front behind : List ℕ) (w' : Words) (next : Word) → rest ≡ front ++ behind → ((before : List ℕ) → Scanned before w word → Scanned (before ++ front) w' next) → Went old from text behind w' next
+  went_more front behind w' next is step = record {
+    done = went.done ++ front;
+    split = went.split ∙ ap (λ (t : List ℕ). went.done ++ t) is ∙ sym (append_assoc went.done front behind);
+    scanned = λ before s. subst (λ (t : List ℕ). Scanned t w' next) (append_assoc before went.done front) (step (before ++ went.done) (went.scanned before s));
+  }
 
-  pub loop_spoilt : (w : Words) (next : Word) → w.bad ≡ true → Scanned ((before ++ take i text) ++ get_or text i 0 ∷ []) w next → Scanned (before ++ text) w next
-  loop_spoilt w next bad s =
-      subst (λ (t : List ℕ). Scanned t w next) (append_assoc before (take (i + 1) text) (drop (i + 1) text) ∙ ap (λ (t : List ℕ). before ++ t) (take-append-drop (i + 1) text))
-      (scanned_rest (before ++ take (i + 1) text) (drop (i + 1) text) w next next bad (loop_byte w next s))
+  pub went_digits : (n : ℕ) (next : Word) → IsDigitsFront rest n → ((bytes : List ℕ) → IsWord word bytes → IsWord next (bytes ++ take n rest)) → Went old from text (take (length rest - n) (drop n rest)) w next
+  went_digits n next front is =
+      went_more (take n rest) (take (length rest - n) (drop n rest)) w next (sym (take-append-drop n rest) ∙ ap (λ (t : List ℕ). take n rest ++ t) (sym (rest_of n rest)))
+      (λ before s. scanned_bytes before (take n rest) w word next (digits_unbroken (take n rest) front.digits) is s)
+
+  pub went_byte : (b : ℕ) (behind : List ℕ) (w' : Words) (next : Word) → rest ≡ b ∷ behind → ((before : List ℕ) → Scanned before w word → Scanned (before ++ b ∷ []) w' next) → Went old from text behind w' next
+  went_byte b behind w' next is step = went_more (b ∷ []) behind w' next is step
+
+  -- the whole text, or one that is spoilt already
+  pub went_all : rest ≡ [] → (before : List ℕ) → Scanned before old from → Scanned (before ++ text) w word
+  went_all none before s =
+      subst (λ (t : List ℕ). Scanned (before ++ t) w word) (sym (went.split ∙ ap (λ (t : List ℕ). went.done ++ t) none ∙ append-nil went.done)) (went.scanned before s)
+
+  pub went_spoilt : w.bad ≡ true → (before : List ℕ) → Scanned before old from → Scanned (before ++ text) w word
+  went_spoilt bad before s =
+      subst (λ (t : List ℕ). Scanned t w word) (append_assoc before went.done rest ∙ ap (λ (t : List ℕ). before ++ t) (sym went.split))
+      (scanned_rest (before ++ went.done) rest w word word bad (went.scanned before s))
 
 -- ---- the record
 

@@ -1,5 +1,6 @@
 -- How a line is taken piece by piece out of a chunk and the source behind it.
 use Rattle.std.specs.Prelude.{ℕ, ℤ, ◌≡◌, ◌≤◌, ◌<◌, ◌+◌, ◌==◌, ◌||◌, Bool, true, false, min, if◌then◌else◌, List, [], ◌∷◌, ◌++◌, length, take, slice_index, All, Option, Some, None, Ok, Err, ⊤, ◌⊎◌}
+use Rattle.std.specs.Char.{is_ascii_digit}
 use Rattle.std.specs.Str.Lines.{strip_carriage_return}
 use Rattle.std.specs.Str.Parse.{digits_value, AllDigits}
 use Rattle.msl_base.specs.declared.fault.Fault.TheVariants as faults
@@ -44,6 +45,12 @@ pub record IsWord (word : Word) (bytes : List ℕ) : Type 0 where
   pub unspelt : word.digits ≡ false → digits ≡ []
   pub spelt : word.digits ≡ true → 0 < length digits
   pub value : word.magnitude ≡ min (digits_value 10 digits) too_great
+
+-- the digits at the front of a text are n
+pub record IsDigitsFront (text : List ℕ) (n : ℕ) : Type 0 where
+  pub within : n ≤ length text
+  pub digits : AllDigits 10 (take n text)
+  pub behind : n < length text → is_ascii_digit (slice_index text n) ≡ false
 
 -- no text that begins so is a record's
 abbrev pub IsSpoilt : List ℕ → Type 0

@@ -1,7 +1,8 @@
-ghost use Rattle.std.specs.Prelude.{◌≡◌, ◌+◌, ◌-◌, ◌*◌, ◌⊎◌, List, [], ◌∷◌, ◌++◌, ℕ, min, not, ◌&&◌};
+ghost use Rattle.std.specs.Prelude.{◌≡◌, ◌+◌, ◌-◌, ◌*◌, ◌⊎◌, List, [], ◌∷◌, ◌++◌, ℕ, min, not, ◌&&◌, take};
 ghost use Rattle.std.specs.Int.{IsInRange};
+ghost use Rattle.std.specs.Str.Parse.{digits_value};
 ghost use Rattle.msl_io.specs.Lines.{number_of};
-ghost use Rattle.msl_io.specs.Taking.{is_sign, IsWord, too_great};
+ghost use Rattle.msl_io.specs.Taking.{is_sign, IsWord, IsDigitsFront, too_great};
 
 // The least magnitude that no number of 64 bits has.
 const TOO_GREAT: u64 = (1 << 63) + 1;
@@ -60,18 +61,20 @@ impl Word {
         !self.begun && (b == b'-' || b == b'+')
     }
 
-    /// The word with one more digit.
+    /// The word with the digits at the front of a text, and how many they are.
     #[inline]
-    pub fn with_digit(self, digit: u8) -> Word
-        requires { IsInRange 48 57 digit }
-        ensures { (bytes : List ℕ) → IsWord self bytes → IsWord result (bytes ++ digit ∷ []) }
+    pub fn with_digits(self, text: &[u8]) -> (Word, usize)
+        ensures word { (bytes : List ℕ) → IsWord self bytes → IsWord result.0 (bytes ++ take result.1 text.now) }
+        ensures front { IsDigitsFront text.now result.1 }
     {
-        Word {
-            begun: true,
-            digits: true,
-            magnitude: append_digit(self.magnitude, digit),
+        let (magnitude, n) = append_digits(self.magnitude, text);
+        let word = Word {
+            begun: self.begun | (n > 0),
+            digits: self.digits | (n > 0),
+            magnitude,
             ..self
-        }
+        };
+        (word, n)
     }
 
     /// The number that the word spells, if it spells one.
@@ -94,6 +97,22 @@ impl Word {
             None
         }
     }
+}
+
+// A magnitude with the digits at the front of a text, and how many they are.
+#[inline]
+fn append_digits(magnitude: u64, text: &[u8]) -> (u64, usize)
+    ensures value { (ds : List ℕ) → magnitude ≡ min (digits_value 10 ds) too_great → result.0 ≡ min (digits_value 10 (ds ++ take result.1 text.now)) too_great }
+    ensures front { IsDigitsFront text.now result.1 }
+{
+    let mut magnitude = magnitude;
+    for (i, &b) in text.iter().enumerate() {
+        if !b.is_ascii_digit() {
+            return (magnitude, i);
+        }
+        magnitude = append_digit(magnitude, b);
+    }
+    (magnitude, text.len())
 }
 
 // A magnitude with one more digit, which stays at `TOO_GREAT` once it is there.

@@ -44,17 +44,18 @@ impl Words {
             return Ok(word);
         }
         let mut word = word;
-        for &b in text {
-            if b.is_ascii_digit() {
-                word = word.with_digit(b);
-            } else {
-                word = self.take_other(word, b)?;
-                if self.bad {
-                    return Ok(word);
-                }
+        let mut rest = text;
+        'bytes: loop {
+            let (next, digits) = word.with_digits(rest);
+            let Some((b, behind)) = rest[digits..].split_first() else {
+                return Ok(next);
+            };
+            word = self.take_other(next, *b)?;
+            if self.bad {
+                return Ok(word);
             }
+            rest = behind;
         }
-        Ok(word)
     }
 
     // Takes a byte that is no digit.

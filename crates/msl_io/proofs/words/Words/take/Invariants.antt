@@ -1,6 +1,9 @@
-use Rattle.std.proofs.Common.{◌++◌, List, ℕ, take}
-use Rattle.msl_io.specs.Taking.{Scanned}
+use Rattle.std.proofs.Common.{length}
+use Rattle.msl_io.proofs.Splitting.{Went}
 use Rattle.msl_io.proofs.words.Words.take.Given as goal
 
-abbrev pub invariant-loop-b : goal.invariant-loop-b
-invariant-loop-b l = (before : List ℕ) → Scanned before l.fn.self l.fn.word → Scanned (before ++ take l.b-index l.text) l.self l.word
+abbrev pub invariant-bytes : goal.invariant-bytes
+invariant-bytes l = Went l.fn.self l.fn.word l.text l.rest l.self l.word
+
+abbrev pub decreases-bytes : goal.decreases-bytes
+decreases-bytes l = length l.rest
