@@ -132,6 +132,7 @@ impl LineReader {
     /// `WideRecord`. A line that is too long is refused as soon as that shows, and any other is read to its end. Where
     /// the source fails before that, nothing is said of the line. After any answer but a record, and after the record
     /// of a last line that no LF ends, it reads no more: it gives the same answer, or `End`, from then on.
+    #[inline(never)]
     pub fn next<S: Source>(&mut self, src: &mut S) -> Line
         ensures line { IsNone self.old.stopped → ReadsLine (S.left src.old) (S.left src.new) self.old self.new result }
         ensures cause { IsNone self.old.stopped → ReadCause result (S.faults src.old) (S.faults src.new) }

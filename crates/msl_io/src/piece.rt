@@ -81,6 +81,7 @@ impl Piece {
     }
 
     /// Appends a signed number in decimal, which has at most 20 bytes.
+    #[inline(always)]
     pub fn push_number(&mut self, x: &i64)
         requires { length self.old + 20 ≤ 320 }
         ensures text { self.new ≡ self.old ++ signed_decimal x.now }
@@ -93,6 +94,7 @@ impl Piece {
     }
 
     // Appends a number in decimal.
+    #[inline(always)]
     fn push_digits(&mut self, n: u64)
         requires { length self.old + length (decimal n) ≤ 320 }
         ensures text { self.new ≡ self.old ++ decimal n }
@@ -105,6 +107,7 @@ impl Piece {
 }
 
 // How many digits a number has in decimal.
+#[inline]
 fn digit_count(n: u64) -> usize
     ensures { result ≡ length (decimal n) }
 {

@@ -102,6 +102,7 @@ impl Text {
     }
 
     /// The line, which has this number and no more bytes.
+    #[inline(always)]
     pub fn finish(self, n: u32) -> Line
         ensures line { (taken : List ℕ) (ended : Bool) → HasTaken taken self → length taken ≤ most_bytes → Gives (reading n (row taken ended)) result }
         ensures kind { IsOfText result }

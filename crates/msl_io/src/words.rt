@@ -75,7 +75,7 @@ impl Words {
     }
 
     /// Takes the word that might have gone on as a whole one.
-    #[inline]
+    #[inline(always)]
     pub fn close(&mut self, word: Word) -> Result<(), NoMemory>
         ensures { OnOk result ((text : List ℕ) → Scanned text self.old word → Closed text self.new) }
     {
@@ -98,6 +98,7 @@ impl Words {
     }
 
     /// The line of this number whose text this was.
+    #[inline(always)]
     pub fn into_line(self, n: u32) -> Line
         ensures line { (text : List ℕ) → Closed text self → Gives (record_of n (numbers_of (words text))) result }
         ensures kind { IsOfText result }
