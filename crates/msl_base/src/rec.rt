@@ -75,6 +75,13 @@ impl Rec {
         self.numbers.push(x).unwrap();
     }
 
+    /// Takes all numbers off. The memory stays, and with it the spare room.
+    pub fn clear(&mut self)
+        ensures { self.new ≡ record self.old { numbers = [] } }
+    {
+        self.numbers.clear();
+    }
+
     /// The numbers.
     pub fn as_slice(&self) -> &[i64]
         ensures { result.now ≡ self.now.numbers }

@@ -11,6 +11,9 @@ fn values_are_kept(rt: HostRuntime) -> Result<(), Fail> {
     rec.reserve(2)?;
     rec.put(i64::MIN);
     assert_eq!(rt; rec.as_slice(), [3, -4, 5, i64::MIN].as_slice());
+    rec.clear();
+    rec.push(6)?;
+    assert_eq!(rt; rec.as_slice(), [6].as_slice());
     assert_eq!(rt; Rec::new(rt.alloc()).as_slice(), [].as_slice());
 
     let numbers = [1, -2, 3];

@@ -1,7 +1,7 @@
 ghost use Rattle.std.specs.Prelude.{◌≡◌, ◌+◌, ◌≤◌, [], ◌++◌, Some, None, IsNone, IsSome, IfOk, length};
 ghost use Rattle.msl_io.specs.Known.{Told};
 ghost use Rattle.msl_io.specs.Reader.{ReadsLine, stop_of, Counts, ReadCause, Reads, Fits};
-ghost use Rattle.msl_io.specs.Taking.{last_stop, Stops};
+ghost use Rattle.msl_io.specs.Taking.{HasTaken, last_stop, Stops};
 
 use crate::Source;
 use crate::chunk::{Chunk, Filled};
@@ -9,6 +9,7 @@ use crate::text::{Part, Text};
 use msl_base::{NoMemory, Rec};
 use std::alloc::Global;
 use std::marker::Model;
+use std::mem;
 
 /// What the next line is. Lines are numbered from 1.
 #[derive(Debug, Drop)]
@@ -91,11 +92,13 @@ impl Line {
 /// and tabs stand between the words of a text. Each word is a number: `+`, `-` or neither, then one or more decimal
 /// digits, with a value of 64 signed bits. The record is these numbers; it is empty where there is no word.
 ///
-/// The reader keeps at most 4,096 bytes that it has read and not used, and takes memory for the record alone.
+/// The reader keeps at most 4,096 bytes that it has read and not used, and takes memory for the record alone, or none
+/// where the record has room in one that `reuse` gave back.
 #[derive(Drop)]
 pub struct LineReader {
     alloc: Global,
     chunk: Chunk,
+    room: Rec,
     read: u32,
     lines: u32,
     stop: Option<Stop>,
@@ -106,11 +109,11 @@ impl Model for LineReader {
 
     ghost Value = { Reader };
 
-    ghost use Rattle.std.specs.Prelude.{◌≤◌};
+    ghost use Rattle.std.specs.Prelude.{◌≡◌, ◌≤◌, []};
 
     ghost view = { λ r. record { rest = r.chunk; read = r.read; lines = r.lines; stopped = r.stop } };
 
-    ghost invariant = { λ r. r.read ≤ r.lines };
+    ghost invariant = { λ r. (r.read ≤ r.lines) × (r.room.numbers ≡ []) };
 }
 
 impl LineReader {
@@ -122,6 +125,7 @@ impl LineReader {
         Ok(LineReader {
             alloc,
             chunk,
+            room: Rec::new(alloc),
             read: 0,
             lines,
             stop: None,
@@ -144,12 +148,23 @@ impl LineReader {
         if let Some(stop) = self.stop {
             return stop.line();
         }
-        let answer = read_line(self.alloc, &mut self.chunk, src, self.read, self.lines);
+        let room = mem::replace(&mut self.room, Rec::new(self.alloc));
+        let text = Text::new(self.alloc, room);
+        let answer = read_line(text, &mut self.chunk, src, self.read, self.lines);
         if let Line::Rec(_) = &answer.line {
             self.read += 1;
         }
         self.stop = answer.stop;
         answer.line
+    }
+
+    /// Takes back a record, in whose memory the next one may be read.
+    pub fn reuse(&mut self, rec: Rec)
+        ensures { self.new ≡ self.old }
+    {
+        let mut room = rec;
+        room.clear();
+        self.room = room;
     }
 }
 
@@ -178,22 +193,23 @@ impl Answer {
     }
 }
 
-// The next line, where `read` lines were read and at most `lines` will be.
+// The next line, of which `text` has no byte, where `read` lines were read and at most `lines` will be.
 fn read_line<S: Source>(
-    alloc: Global,
+    text: Text,
     chunk: &mut Chunk,
     src: &mut S,
     read: u32,
     lines: u32,
 ) -> Answer
-    requires { read ≤ lines }
+    requires text { HasTaken [] text }
+    requires read { read ≤ lines }
     ensures line { Told (S.left src.old) (S.left src.new) (λ l l'. Reads lines (read + 1) (chunk.old ++ l) (chunk.new ++ l') l' result.stop result.line) }
     ensures cause { ReadCause result.line (S.faults src.old) (S.faults src.new) }
     ensures fits { Fits read lines result.line }
     ensures stops { Stops result.line result.stop }
     ensures kept { length chunk.new ≤ 4096 }
 {
-    let mut text = Text::new(alloc);
+    let mut text = text;
     'parts: loop {
         match chunk.fill(src) {
             Filled::Bytes => (),

@@ -6,7 +6,7 @@ use crate::Line;
 use crate::chunk::Chunk;
 use crate::numeral::Word;
 use crate::words::Words;
-use msl_base::NoMemory;
+use msl_base::{NoMemory, Rec};
 use std::alloc::Global;
 
 /// How many bytes a line may have before its LF.
@@ -35,13 +35,14 @@ pub struct Text {
 }
 
 impl Text {
-    /// The line with no byte. Takes no memory.
-    pub fn new(alloc: Global) -> Text
+    /// The line with no byte, with room for its numbers in `room`. Takes no memory.
+    pub fn new(alloc: Global, room: Rec) -> Text
+        requires { room.numbers ≡ [] }
         ensures taken { HasTaken [] result }
         ensures len { result.len ≡ 0 }
     {
         Text {
-            words: Words::new(alloc),
+            words: Words::new(alloc, room),
             word: Word::none(),
             cr: false,
             len: 0,

@@ -23,13 +23,14 @@ pub struct Words {
 }
 
 impl Words {
-    /// No words. Takes no memory.
-    pub fn new(alloc: Global) -> Words
+    /// No words, with room for their numbers in `room`. Takes no memory.
+    pub fn new(alloc: Global, room: Rec) -> Words
+        requires { room.numbers ≡ [] }
         ensures { (word : Word) → IsWord word [] → Scanned [] result word }
     {
         Words {
             alloc,
-            numbers: Rec::new(alloc),
+            numbers: room,
             count: 0,
             bad: false,
         }

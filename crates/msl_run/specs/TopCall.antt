@@ -1,7 +1,7 @@
 -- What the top call says of its words, of the script and of the run.
 use Rattle.std.specs.Prelude.{ℕ, ◌≡◌, ◌⊎◌, ◌==◌, ◌&&◌, not, Bool, false, if◌then◌else◌, List, [], ◌∷◌, codes, Option, Some, None, ⊤}
 use Rattle.std.specs.Str.{bytes_eq}
-use Rattle.msl_run.specs.Causes.{Count, Rises}
+use Rattle.msl_run.specs.Causes.{Count, Rises, Stays}
 use Rattle.msl_run.specs.FirstForm.{ReadsAs}
 use Rattle.msl_run.specs.Headline.{RanTold}
 use Rattle.msl_run.specs.Stages.{SeqRuns}
@@ -68,6 +68,9 @@ RunsCommand (Some (Seq name)) file e status = RunsFile (file name) e status × (
 
 -- the counts never fall; Library, Read and Write come only where one rose
 pub record PlainCause (status : Status) (library source sink : Count) : Type 0 where
+  pub library_stays : Stays library
+  pub source_stays : Stays source
+  pub sink_stays : Stays sink
   pub library_rose : status ≡ Library → Rises library
   pub source_rose : status ≡ Read → Rises source
   pub sink_rose : status ≡ Write → Rises sink

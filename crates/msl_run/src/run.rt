@@ -19,8 +19,10 @@ const MOST_BYTES: usize = 1_048_576;
 /// `out` and flushes them, and writes the message of the answer to `err`, unless it is `Done`.
 ///
 /// Where the objects tell their bytes, the clause `ran` says what was read and written at each answer. `Usage` comes
-/// exactly where the words are no command, `Unbuilt` exactly where the script has another form than is built,
-/// `Library`, `Read` and `Write` only where the object counted a fault, and `Memory` where memory ran out.
+/// exactly where the words are no command. `Unbuilt` comes only where the script, if the library tells it, has another
+/// form than is built; at such a script `Library` or `Memory` may come instead, and nothing else. `Library`, `Read` and
+/// `Write` come only where the object counted a fault in this call, and `Memory` where memory ran out, which no clause
+/// says.
 pub fn muesli_plain<L: Library, S: Source, K: Sink, E: Sink>(
     alloc: Global,
     words: &Words,

@@ -24,6 +24,8 @@ impl Stage {
 /// What a script says: its functions, and the stage that a stream goes through.
 #[derive(Debug, Drop)]
 pub struct Script {
+    /// Its functions.
     pub funs: Funs,
+    /// What a record goes through.
     pub main: Stage,
 }

@@ -42,7 +42,7 @@ fn run_atomic<S: Source, K: Sink>(alloc: Global, f: Muscle<'_>, src: &mut S, out
     'records: loop {
         match next_record(reader.next(src)) {
             Ok(rec) => match write_result(f, rec.as_slice(), out) {
-                Step::Written => {}
+                Step::Written => reader.reuse(rec),
                 Step::Faulted(fault) => return flushed(out, Status::Stream(fault)),
                 Step::Failed => return Status::Write,
             },

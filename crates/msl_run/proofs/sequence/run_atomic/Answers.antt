@@ -1,4 +1,4 @@
-use Rattle.std.proofs.Common.{rules, arith, ◌≡◌, ◌+◌, ◌++◌, ℕ, ap, sym, refl, ◌∙◌, subst, inl, IsNone, IsSome}
+use Rattle.std.proofs.Common.{rules, arith, ◌≡◌, ◌+◌, ◌≤◌, ◌++◌, ℕ, ap, sym, refl, ◌∙◌, subst, inl, IsNone, IsSome}
 use Rattle.msl_base.specs.Streams.{Record, Outcome}
 use Rattle.msl_io.specs.Known.{Told}
 use Rattle.msl_io.specs.Reader.{Reader, Reads, Counts, ReadCause, MayGoOn, stop_of}
@@ -85,12 +85,14 @@ records-preserved g c =
     let going : IsNone old.stopped = search (rules, gives.going) in
     let counts = subst (Counts old new) gives.is (c.next.ensures.counts going) in
     let cause = subst (λ (answer : Line). ReadCause answer (g.S.Source.faults c.records.src) (g.S.Source.faults c.next.new.src)) gives.is (c.next.ensures.cause going) in
+    let same = c.reuse.ensures in
+    let stands = subst (λ (i : ℕ). Told a d (λ input left. Told h l (λ o w. StandsAt one input (new.rest ++ left) left o w (i + 1) new.stopped))) (sym counts.0)
+    (told_next one a b d h k l old.rest new.rest n old.stopped new.stopped c.next.result c.in-Ok-next_record.rec stepped.0 gives (ap one (sym c.as_slice.ensures) ∙ stepped.1) stepped.2) in
     record {
-      stands = subst (λ (i : ℕ). Told a d (λ input left. Told h l (λ o w. StandsAt one input (new.rest ++ left) left o w (i + 1) new.stopped))) (sym counts.0)
-          (told_next one a b d h k l old.rest new.rest n old.stopped new.stopped c.next.result c.in-Ok-next_record.rec stepped.0 gives (ap one (sym c.as_slice.ensures) ∙ stepped.1) stepped.2);
-      going = counts.2;
-      lines = c.next.ensures.lines ∙ c.records.invariant.lines;
-      within = counts.1;
+      stands = subst (λ (r : Reader). Told a d (λ input left. Told h l (λ o w. StandsAt one input (r.rest ++ left) left o w (r.read + 1) r.stopped))) (sym same) stands;
+      going = subst (λ (r : Reader). MayGoOn r.stopped) (sym same) counts.2;
+      lines = ap (λ (r : Reader). r.lines) same ∙ c.next.ensures.lines ∙ c.records.invariant.lines;
+      within = subst (λ (r : Reader). r.read ≤ r.lines) (sym same) counts.1;
       source = omega (arith, cause, c.records.invariant.source);
       sink = omega (arith, c.in-Written.ensures.cause, c.records.invariant.sink);
     }
