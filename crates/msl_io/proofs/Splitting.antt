@@ -334,6 +334,13 @@ module _ (old : Words) (from : Word) (text rest : List ℕ) (w : Words) (word : 
       subst (λ (t : List ℕ). Scanned t w word) (append_assoc before went.done rest ∙ ap (λ (t : List ℕ). before ++ t) (sym went.split))
       (scanned_rest (before ++ went.done) rest w word word bad (went.scanned before s))
 
+-- digits, and a byte behind them
+pub went_on : (old : Words) (from : Word) (text rest behind : List ℕ) (w w' : Words) (word next last : Word) (n b : ℕ) → Went old from text rest w word
+    → IsDigitsFront rest n → ((bytes : List ℕ) → IsWord word bytes → IsWord next (bytes ++ take n rest))
+    → take (length rest - n) (drop n rest) ≡ b ∷ behind → ((before : List ℕ) → Scanned before w next → Scanned (before ++ b ∷ []) w' last) → Went old from text behind w' last
+went_on old from text rest behind w w' word next last n b went front is split step =
+    went_byte old from text (take (length rest - n) (drop n rest)) w next (went_digits old from text rest w word went n next front is) b behind w' last split step
+
 -- ---- the record
 
 pub record-bad : (n : ℕ) (text : List ℕ) (w : Words) → w.bad ≡ true → Closed text w → record_of n (numbers_of (words text)) ≡ Err (faults.BadRecord n)

@@ -109,11 +109,11 @@ impl Model for LineReader {
 
     ghost Value = { Reader };
 
-    ghost use Rattle.std.specs.Prelude.{◌≡◌, ◌≤◌, []};
+    ghost use Rattle.std.specs.Prelude.{◌≤◌};
 
     ghost view = { λ r. record { rest = r.chunk; read = r.read; lines = r.lines; stopped = r.stop } };
 
-    ghost invariant = { λ r. (r.read ≤ r.lines) × (r.room.numbers ≡ []) };
+    ghost invariant = { λ r. r.read ≤ r.lines };
 }
 
 impl LineReader {
@@ -136,7 +136,6 @@ impl LineReader {
     /// `WideRecord`. A line that is too long is refused as soon as that shows, and any other is read to its end. Where
     /// the source fails before that, nothing is said of the line. After any answer but a record, and after the record
     /// of a last line that no LF ends, it reads no more: it gives the same answer, or `End`, from then on.
-    #[inline(never)]
     pub fn next<S: Source>(&mut self, src: &mut S) -> Line
         ensures line { IsNone self.old.stopped → ReadsLine (S.left src.old) (S.left src.new) self.old self.new result }
         ensures cause { IsNone self.old.stopped → ReadCause result (S.faults src.old) (S.faults src.new) }
@@ -148,7 +147,8 @@ impl LineReader {
         if let Some(stop) = self.stop {
             return stop.line();
         }
-        let room = mem::replace(&mut self.room, Rec::new(self.alloc));
+        let mut room = mem::replace(&mut self.room, Rec::new(self.alloc));
+        room.clear();
         let text = Text::new(self.alloc, room);
         let answer = read_line(text, &mut self.chunk, src, self.read, self.lines);
         if let Line::Rec(_) = &answer.line {
@@ -162,9 +162,7 @@ impl LineReader {
     pub fn reuse(&mut self, rec: Rec)
         ensures { self.new ≡ self.old }
     {
-        let mut room = rec;
-        room.clear();
-        self.room = room;
+        self.room = rec;
     }
 }
 
@@ -194,13 +192,7 @@ impl Answer {
 }
 
 // The next line, of which `text` has no byte, where `read` lines were read and at most `lines` will be.
-fn read_line<S: Source>(
-    text: Text,
-    chunk: &mut Chunk,
-    src: &mut S,
-    read: u32,
-    lines: u32,
-) -> Answer
+fn read_line<S: Source>(text: Text, chunk: &mut Chunk, src: &mut S, read: u32, lines: u32) -> Answer
     requires text { HasTaken [] text }
     requires read { read ≤ lines }
     ensures line { Told (S.left src.old) (S.left src.new) (λ l l'. Reads lines (read + 1) (chunk.old ++ l) (chunk.new ++ l') l' result.stop result.line) }
