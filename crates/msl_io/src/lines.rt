@@ -1,7 +1,7 @@
 ghost use Rattle.std.specs.Prelude.{◌≡◌, ◌+◌, ◌≤◌, [], ◌++◌, Some, None, IsNone, IsSome, IfOk, length};
 ghost use Rattle.msl_io.specs.Known.{Told};
 ghost use Rattle.msl_io.specs.Reader.{ReadsLine, stop_of, Counts, ReadCause, Reads, Fits};
-ghost use Rattle.msl_io.specs.Taking.{HasTaken, last_stop, Stops};
+ghost use Rattle.msl_io.specs.Taking.{last_stop, Stops};
 
 use crate::Source;
 use crate::chunk::{Chunk, Filled};
@@ -147,10 +147,15 @@ impl LineReader {
         if let Some(stop) = self.stop {
             return stop.line();
         }
-        let mut room = mem::replace(&mut self.room, Rec::new(self.alloc));
-        room.clear();
-        let text = Text::new(self.alloc, room);
-        let answer = read_line(text, &mut self.chunk, src, self.read, self.lines);
+        let room = mem::replace(&mut self.room, Rec::new(self.alloc));
+        let answer = read_line(
+            self.alloc,
+            room,
+            &mut self.chunk,
+            src,
+            self.read,
+            self.lines,
+        );
         if let Line::Rec(_) = &answer.line {
             self.read += 1;
         }
@@ -158,7 +163,7 @@ impl LineReader {
         answer.line
     }
 
-    /// Takes back a record, in whose memory the next one may be read.
+    /// Takes back a record, so that the next one may stand in its memory.
     pub fn reuse(&mut self, rec: Rec)
         ensures { self.new ≡ self.old }
     {
@@ -191,17 +196,23 @@ impl Answer {
     }
 }
 
-// The next line, of which `text` has no byte, where `read` lines were read and at most `lines` will be.
-fn read_line<S: Source>(text: Text, chunk: &mut Chunk, src: &mut S, read: u32, lines: u32) -> Answer
-    requires text { HasTaken [] text }
-    requires read { read ≤ lines }
+// The next line, read into the memory of `room`, where `read` lines were read and at most `lines` will be.
+fn read_line<S: Source>(
+    alloc: Global,
+    room: Rec,
+    chunk: &mut Chunk,
+    src: &mut S,
+    read: u32,
+    lines: u32,
+) -> Answer
+    requires { read ≤ lines }
     ensures line { Told (S.left src.old) (S.left src.new) (λ l l'. Reads lines (read + 1) (chunk.old ++ l) (chunk.new ++ l') l' result.stop result.line) }
     ensures cause { ReadCause result.line (S.faults src.old) (S.faults src.new) }
     ensures fits { Fits read lines result.line }
     ensures stops { Stops result.line result.stop }
     ensures kept { length chunk.new ≤ 4096 }
 {
-    let mut text = text;
+    let mut text = Text::new(alloc, room);
     'parts: loop {
         match chunk.fill(src) {
             Filled::Bytes => (),

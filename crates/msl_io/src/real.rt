@@ -118,6 +118,7 @@ impl<R: Files + Drop> Library for RealLibrary<R> {
 
     ghost faults = { λ l. l.faults };
 
+    // Inlined, its piece would stand among the variables of the caller's whole run.
     #[inline(never)]
     fn fetch(&mut self, alloc: Global, name: &str, limit: usize) -> Fetched {
         let mut file = match fs::open(&self.rt, name) {

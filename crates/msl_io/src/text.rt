@@ -35,9 +35,8 @@ pub struct Text {
 }
 
 impl Text {
-    /// The line with no byte, with room for its numbers in `room`. Takes no memory.
+    /// The line with no byte. The memory of `room` is for its numbers; no other is taken.
     pub fn new(alloc: Global, room: Rec) -> Text
-        requires { room.numbers ≡ [] }
         ensures taken { HasTaken [] result }
         ensures len { result.len ≡ 0 }
     {

@@ -23,14 +23,15 @@ pub struct Words {
 }
 
 impl Words {
-    /// No words, with room for their numbers in `room`. Takes no memory.
+    /// No words. The memory of `room` is for their numbers; no other is taken.
     pub fn new(alloc: Global, room: Rec) -> Words
-        requires { room.numbers ≡ [] }
         ensures { (word : Word) → IsWord word [] → Scanned [] result word }
     {
+        let mut numbers = room;
+        numbers.clear();
         Words {
             alloc,
-            numbers: room,
+            numbers,
             count: 0,
             bad: false,
         }
