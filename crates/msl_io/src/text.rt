@@ -120,6 +120,7 @@ impl Text {
 }
 
 // How many bytes stand before the first LF, or all.
+#[inline(never)]
 fn line_end(bytes: &[u8]) -> usize
     ensures { IsLineEnd bytes.now result }
 {
