@@ -1,7 +1,17 @@
 pub mod Rows
+pub mod Texts
 pub mod Shapes
 pub mod Meaning
 pub mod Budget
 pub mod Checks
+pub mod Reading
+pub mod Front
+pub mod Grammar
 pub mod Evaluable
+pub mod Parsing
+pub mod Parse
+pub mod Naming
+pub mod Calls
+pub mod Binding
+pub mod Declaring
 pub mod Muscle

@@ -1,7 +1,8 @@
 ghost use Rattle.std.specs.Prelude.{◌≡◌, ◌<◌, ◌≤◌, ◌++◌, [], ◌∷◌, length, Some, slice_get, OnOk, OnErr};
-ghost use Rattle.msl_muscle.specs.Checks.{AreFuns, MayFollow};
+ghost use Rattle.msl_muscle.specs.Checks.{AreFuns, MayFollow, rank_of};
 
 use crate::Exprs;
+use crate::rank::greatest_called;
 use msl_base::{Name, NoMemory};
 use sqlite_items::Items;
 use std::alloc::Global;
@@ -28,13 +29,15 @@ pub struct Fun {
 #[derive(Debug, Drop)]
 pub struct Funs {
     items: Items<Fun>,
+    // The rank of each function.
+    ranks: Vec<u32>,
 }
 
 impl Model for Funs {
-    ghost use Rattle.std.specs.Prelude.{List};
+    ghost use Rattle.std.specs.Prelude.{◌≡◌, List, []};
     ghost use Rattle.std.specs.Coded.{codes};
     ghost use Rattle.msl_muscle.specs.declared.funs.Fun.{Fun};
-    ghost use Rattle.msl_muscle.specs.Checks.{AreFuns};
+    ghost use Rattle.msl_muscle.specs.Checks.{AreFuns, ranks_from};
     ghost use Rattle.msl_muscle.specs.contracts.expr.Expr as e;
 
     ghost Value = { List Fun };
@@ -43,7 +46,7 @@ impl Model for Funs {
 
     ghost view = { λ f. f.items };
 
-    ghost invariant = { λ f. AreFuns f.items };
+    ghost invariant = { λ f. record { rules : AreFuns f.items; ranks : f.ranks.items ≡ ranks_from [] f.items } };
 }
 
 impl Funs {
@@ -53,6 +56,7 @@ impl Funs {
     {
         Funs {
             items: Items::new(alloc),
+            ranks: Vec::new(alloc),
         }
     }
 
@@ -62,7 +66,11 @@ impl Funs {
         ensures ok { OnOk result (self.new ≡ self.old ++ f ∷ []) }
         ensures err { OnErr result (self.new ≡ self.old) }
     {
+        let rank = greatest_called(self.ranks.as_slice(), f.results.as_slice()) + 1;
+        // With room for the rank, only the push of the function can fail.
+        self.ranks.reserve(1)?;
         self.items.push(f)?;
+        self.ranks.push(rank).unwrap();
         Ok(())
     }
 
@@ -72,5 +80,13 @@ impl Funs {
         ensures funs { AreFuns self.now }
     {
         self.items.as_slice()
+    }
+
+    /// The rank of the function at a place: 1, or one more than the greatest of those that it calls; at most 8.
+    pub fn rank(&self, at: u32) -> u32
+        requires { at < length self.now }
+        ensures { result ≡ rank_of self.now at }
+    {
+        self.ranks[at as usize]
     }
 }

@@ -7,6 +7,8 @@ ghost use Rattle.msl_muscle.specs.declared.expr.BinOp.{BinOp};
 ghost use Rattle.msl_muscle.specs.declared.funs.Fun.{Fun};
 ghost use Rattle.msl_muscle.specs.Checks.{is_name, MayFollow, AreFuns, names_after_results};
 ghost use Rattle.msl_muscle.specs.Rows.{sum_below, last_below, by_zero, shorts, calls, funs};
+ghost use Rattle.msl_muscle.specs.Texts.{fun_of_text, square, differences};
+ghost use Rattle.msl_lex.specs.declared.kind.Kind.TheVariants.{Expected, Twice, Unknown, Width};
 ghost use Rattle.msl_muscle.specs.declared.expr.BinOp.TheVariants.{Add, Sub, Mul, Div, Rem, Lt, Min, Max};
 ghost use Rattle.msl_muscle.specs.declared.fault.EvalFault.TheVariants.{Overflow, DivZero, Steps};
 
@@ -82,4 +84,14 @@ pub fn limits()
 /// Where both operands have values, `and` and `or` too are operators of two numbers.
 pub fn operands()
     ensures { (op : BinOp) (a b : ℤ) → (both op (give a) (give b)).outcome ≡ operated op a b }
+{}
+
+/// What some texts of one function are read as: the function, or the first refusal with its place.
+pub fn readings()
+    ensures square { fun_of_text [] (codes "fun f(x) = x * x;") ≡ Ok square }
+    ensures left { fun_of_text [] (codes "fun f(x) = 1 - x - 2;") ≡ Ok differences }
+    ensures expected { fun_of_text [] (codes "fun f(x) = ;") ≡ Err (Expected, 11) }
+    ensures unknown { fun_of_text [] (codes "fun f(x) = let y = y in y;") ≡ Err (Unknown, 19) }
+    ensures twice { fun_of_text [] (codes "fun f(x, x) = x;") ≡ Err (Twice, 9) }
+    ensures width { fun_of_text (sum_below ∷ []) (codes "fun f(x) = g(x, 1);") ≡ Err (Width, 11) }
 {}

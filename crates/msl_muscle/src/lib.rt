@@ -9,6 +9,8 @@ mod funs;
 pub mod laws;
 mod muscle;
 mod number;
+mod parse;
+mod rank;
 mod scope;
 #[cfg(test)]
 mod tests;
@@ -17,3 +19,4 @@ pub use expr::{BinOp, Expr, Exprs};
 pub use fault::EvalFault;
 pub use funs::{Fun, Funs, Names};
 pub use muscle::{Muscle, Use};
+pub use parse::{ParseFault, parse_fun, parse_fun_among};

@@ -1,8 +1,8 @@
-ghost use Rattle.std.specs.Prelude.{◌≡◌, IfOk, IfSome, [], ◌∷◌, pos, length};
+ghost use Rattle.std.specs.Prelude.{◌≡◌, IfOk, IfSome, [], ◌∷◌, pos, length, codes};
 ghost use Rattle.msl_muscle.specs.Muscle.{IsFun};
 ghost use Rattle.msl_muscle.specs.declared.funs.Fun.{Fun};
 ghost use Rattle.msl_muscle.specs.Rows.{sum_below, last_below, by_zero, shorts, calls, call_body};
-ghost use Rattle.msl_muscle.specs.Shapes.{binary};
+ghost use Rattle.msl_muscle.specs.Shapes.{binary, calling};
 ghost use Rattle.msl_muscle.specs.declared.expr.BinOp.TheVariants.{Div};
 ghost use Rattle.msl_muscle.specs.declared.expr.Expr.TheVariants.{Lit, Slot};
 
@@ -136,6 +136,19 @@ fn c(alloc: Global) -> Result<Fun, NoMemory>
     })
 }
 
+// fun d(x) = c(x); where c is the second function
+fn d(alloc: Global) -> Result<Fun, NoMemory>
+    ensures { IfOk result (λ f. f ≡ record { name = codes "d"; params = codes "x" ∷ []; results = calling 1 (Slot 0 ∷ []) ∷ []; names = [] }) }
+{
+    let body = Expr::call(1, one(alloc, Expr::Slot(0))?);
+    Ok(Fun {
+        name: Name::of(alloc, "d")?,
+        params: one_name(alloc, "x")?,
+        results: one(alloc, body)?,
+        names: Items::new(alloc),
+    })
+}
+
 fn all(alloc: Global) -> Result<Funs, NoMemory> {
     let mut all = Funs::new(alloc);
     all.add(g(alloc)?)?;
@@ -252,4 +265,15 @@ fn operates(rt: HostRuntime) {
     for (op, x, y, want) in cases {
         assert_eq!(rt; operate(op, x, y), want, "{op:?} of {x} and {y}");
     }
+}
+
+#[test]
+fn ranks(rt: HostRuntime) -> Result<(), Fail> {
+    let alloc = rt.alloc();
+    let mut funs = Funs::new(alloc);
+    funs.add(g(alloc)?)?;
+    funs.add(c(alloc)?)?;
+    funs.add(d(alloc)?)?;
+    assert_eq!(rt; (funs.rank(0), funs.rank(1), funs.rank(2)), (1, 2, 3));
+    Ok(())
 }

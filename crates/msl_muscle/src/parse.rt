@@ -1,0 +1,95 @@
+ghost use Rattle.std.specs.Prelude.{◌<◌, [], length, map, IfOk};
+ghost use Rattle.msl_lex.specs.Lexemes.{AreTokensOf, lexeme_of};
+ghost use Rattle.msl_muscle.specs.Checks.{MayFollow};
+ghost use Rattle.msl_muscle.specs.Parse.{IsFunAt};
+
+use crate::parse::cursor::Cursor;
+use crate::parse::declared::Declared;
+use crate::{Fun, Funs};
+use msl_base::Name;
+use msl_lex::Tokens;
+use std::alloc::Global;
+
+mod callee;
+mod cursor;
+mod declared;
+mod draft;
+mod expression;
+mod fault;
+mod first;
+mod function;
+mod level;
+mod naming;
+mod operator;
+mod reserved;
+#[cfg(test)]
+mod tests;
+mod tree;
+
+pub use fault::ParseFault;
+
+/// Reads the function that begins with the token at `from`, over the functions that are declared before it: the
+/// function, and the place among the tokens behind its `;`.
+///
+/// # Errors
+///
+/// `At` with the first test that fails, and where the token begins that it names: the one that is tested, if nothing
+/// else is said. The tokens are tested in their order, and each by these tests in the order of `Kind`:
+///
+/// - `Expected`: the token can't go on the grammar.
+/// - `Many`: at `fun`, 256 functions are declared; at a name that comes into scope, the function has 16 parameters,
+///   or 32 variables are in scope; at the beginning of a result, there are 16.
+/// - `Deep`: at the beginning of an expression or of an operand, 256 are open around it; at a call, the rank of the
+///   function is 8; at the `;`, which names the function's name, a result is deeper than 100.
+/// - `Twice`: the function's name is declared, or the name of a parameter or a variable is in scope.
+/// - `Unknown`: the name of a variable isn't in scope, or that of a call isn't declared.
+/// - `WrongKind`: the name of a call is no function's.
+/// - `Width`: a call is of a function of several results; at the `)` of a call, which names its name, the arguments
+///   are not as many as the parameters.
+///
+/// `NoMemory` at any tokens.
+pub fn parse_fun(
+    alloc: Global,
+    text: &[u8],
+    toks: &Tokens,
+    from: usize,
+    funs: &Funs,
+) -> Result<(Fun, usize), ParseFault>
+    requires tokens { AreTokensOf text.now toks.now }
+    requires from { from < length toks.now }
+    ensures read { IsFunAt funs.now [] (map (lexeme_of text.now) toks.now) from result }
+    ensures rules { IfOk result (λ r. MayFollow funs.now r.0) }
+    ensures within { IfOk result (λ r. (from < r.1) × (r.1 < length toks.now)) }
+{
+    parse_fun_among(alloc, text, toks, from, funs, &[])
+}
+
+/// Reads a function as `parse_fun` does, with names that are declared for other things than functions: the function
+/// can't have one of them, and a call of one is refused.
+///
+/// # Errors
+///
+/// Those of `parse_fun`: `Twice` where the function has one of the names, and `WrongKind` where it calls one.
+pub fn parse_fun_among(
+    alloc: Global,
+    text: &[u8],
+    toks: &Tokens,
+    from: usize,
+    funs: &Funs,
+    others: &[Name],
+) -> Result<(Fun, usize), ParseFault>
+    requires tokens { AreTokensOf text.now toks.now }
+    requires from { from < length toks.now }
+    ensures read { IsFunAt funs.now others.now (map (lexeme_of text.now) toks.now) from result }
+    ensures rules { IfOk result (λ r. MayFollow funs.now r.0) }
+    ensures within { IfOk result (λ r. (from < r.1) × (r.1 < length toks.now)) }
+{
+    let toks = toks.as_slice();
+    let declared = Declared {
+        alloc,
+        funs,
+        others,
+    };
+    let (fun, left) = declared.fun(Cursor::new(text, &toks[from..]))?;
+    Ok((fun, toks.len() - left))
+}
