@@ -1,5 +1,5 @@
 -- What the definitions say of an expression, by the variant of the code.
-use Rattle.std.proofs.Common.{◌≡◌, ℕ, ℤ, neg_ℤ, not, ◌≤◌, arith, List, [], ◌∷◌, refl, ap, ◌∙◌}
+use Rattle.std.proofs.Common.{◌≡◌, ℕ, ℤ, ◌≤◌, arith, List, [], ◌∷◌, refl, ap, ◌∙◌}
 use mathlib.Core.Former.{Count}
 use Rattle.msl_muscle.specs.declared.expr.BinOp.{BinOp}
 use Rattle.msl_muscle.specs.declared.expr.Expr.{Expr, Row_of-Expr, end_of-Expr, more_of-Expr, items-the_row-Expr, items_hidden-the_row-Expr-1}
@@ -7,8 +7,8 @@ use Rattle.msl_muscle.specs.declared.expr.Expr.TheVariants.{Lit, Slot, Neg, Not,
 use Rattle.msl_muscle.specs.declared.expr.Expr.TheBlock as block
 use Rattle.msl_muscle.specs.declared.funs.Fun.{Fun}
 use Rattle.msl_muscle.specs.Shapes.{minus, opposite, binary, choice, binding, looping}
-use Rattle.msl_muscle.specs.Meaning.{Counted, give, free, node, ◌>>=◌, checked, holds, truth, variable, value, values, arguments, call, meanings}
-use Rattle.msl_muscle.specs.Budget.{value_over, values_over, call_over, binary_over, choice_over, binding_over, looping_over, calling_over}
+use Rattle.msl_muscle.specs.Meaning.{Counted, give, node, ◌>>=◌, variable, value, values, arguments, call, meanings}
+use Rattle.msl_muscle.specs.Budget.{value_over, values_over, call_over, minus_over, opposite_over, binary_over, choice_over, binding_over, looping_over, calling_over}
 
 module _ (known : List Fun) (scope : List ℤ) where
   pub value-Lit : (n : ℤ) → value_over known (Lit n) scope ≡ node (give n)
@@ -19,11 +19,11 @@ module _ (known : List Fun) (scope : List ℤ) where
   unfolding value_over
   value-Slot k = refl
 
-  pub value-Neg : (a : Expr) → value_over known (Neg a) scope ≡ node (value_over known a scope >>= λ x. free (checked (neg_ℤ x)))
+  pub value-Neg : (a : Expr) → value_over known (Neg a) scope ≡ node (minus_over known a scope)
   unfolding value_over block.shape-the_row-Expr-0 block.hidden-the_row-Expr-0 denote.Hole.Carrier.hidden
   value-Neg a = refl
 
-  pub value-Not : (a : Expr) → value_over known (Not a) scope ≡ node (value_over known a scope >>= λ x. give (truth (not (holds x))))
+  pub value-Not : (a : Expr) → value_over known (Not a) scope ≡ node (opposite_over known a scope)
   unfolding value_over block.shape-the_row-Expr-0 block.hidden-the_row-Expr-0 denote.Hole.Carrier.hidden
   value-Not a = refl
 

@@ -65,11 +65,11 @@ module _ (known : List Fun) (n : ℕ) where
 
 -- ---- sizes
 
-pub size-Neg : (a : Expr) → size_of (Neg a) ≡ size_of a + 1
+pub size-Neg : (a : Expr) → size_of (Neg a) ≡ size_of a + 2
 unfolding size_of block.shape-the_row-Expr-0 block.hidden-the_row-Expr-0 denote.Hole.Carrier.hidden
 size-Neg a = refl
 
-pub size-Not : (a : Expr) → size_of (Not a) ≡ size_of a + 1
+pub size-Not : (a : Expr) → size_of (Not a) ≡ size_of a + 2
 unfolding size_of block.shape-the_row-Expr-0 block.hidden-the_row-Expr-0 denote.Hole.Carrier.hidden
 size-Not a = refl
 

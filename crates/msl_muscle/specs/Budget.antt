@@ -1,11 +1,11 @@
 -- An evaluation that goes on after some nodes, against the limit: its answer, and how many nodes were begun by then.
-use Rattle.std.specs.Prelude.{ℕ, ◌+◌, nat_lt, Bool, true, false, ℤ, pos, List, [], ◌∷◌, ◌++◌, Result, Ok, Err, if◌then◌else◌}
+use Rattle.std.specs.Prelude.{ℕ, ◌+◌, nat_lt, Bool, true, false, not, ℤ, pos, neg_ℤ, List, [], ◌∷◌, ◌++◌, Result, Ok, Err, if◌then◌else◌}
 use Rattle.msl_muscle.specs.declared.expr.BinOp.{BinOp}
 use Rattle.msl_muscle.specs.declared.expr.Expr.{Expr}
 use Rattle.msl_muscle.specs.declared.fault.EvalFault.{EvalFault}
 use Rattle.msl_muscle.specs.declared.fault.EvalFault.TheVariants.{Steps}
 use Rattle.msl_muscle.specs.declared.funs.Fun.{Fun}
-use Rattle.msl_muscle.specs.Meaning.{Counted, ◌>>=◌, value, values, call, meanings, both, holds, turns, turns_of}
+use Rattle.msl_muscle.specs.Meaning.{Counted, free, give, ◌>>=◌, value, values, call, meanings, both, checked, holds, truth, turns, turns_of}
 
 abbrev pub ended : {A : Type 0} → Result A EvalFault → ℕ → Result (A × ℕ) EvalFault
 ended (Ok x) n = Ok (x, n)
@@ -26,6 +26,12 @@ unfoldable pub call_over : List Fun → ℕ → List ℤ → Counted ℤ
 call_over known f args = call (meanings [] known) f args
 
 -- the parts of a node, one after the other
+abbrev pub minus_over : List Fun → Expr → List ℤ → Counted ℤ
+minus_over known a scope = value_over known a scope >>= λ x. free (checked (neg_ℤ x))
+
+abbrev pub opposite_over : List Fun → Expr → List ℤ → Counted ℤ
+opposite_over known a scope = value_over known a scope >>= λ x. give (truth (not (holds x)))
+
 abbrev pub binary_over : List Fun → BinOp → Expr → Expr → List ℤ → Counted ℤ
 binary_over known op a b scope = both op (value_over known a scope) (value_over known b scope)
 

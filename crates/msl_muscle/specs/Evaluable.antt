@@ -29,12 +29,12 @@ module _ (known : List Fun) where
   AreEvaluable n (e ∷ es) = IsEvaluable n e × AreEvaluable n es
 
 unfoldable mutual
-  -- how many nodes an expression has, and one more for each argument
+  -- how many nodes an expression has, and one more for each argument and for the operand of a `-` or a `not`
   pub size_of : Expr → ℕ
   size_of (Lit x) = 1
   size_of (Slot k) = 1
-  size_of (minus a) = size_of a + 1
-  size_of (opposite a) = size_of a + 1
+  size_of (minus a) = size_of a + 2
+  size_of (opposite a) = size_of a + 2
   size_of (binary op a b) = size_of a + size_of b + 1
   size_of (choice c a b) = size_of c + size_of a + size_of b + 1
   size_of (binding a b) = size_of a + size_of b + 1

@@ -7,6 +7,7 @@ pub mod Checks
 pub mod Reading
 pub mod Front
 pub mod Grammar
+pub mod Kinds
 pub mod Evaluable
 pub mod Parsing
 pub mod Parse
@@ -15,3 +16,7 @@ pub mod Calls
 pub mod Binding
 pub mod Declaring
 pub mod Muscle
+pub mod Blocks
+pub mod Whole
+pub mod WholeTexts
+pub mod WholeLaws

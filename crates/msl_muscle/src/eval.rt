@@ -1,7 +1,7 @@
 // The walk over an expression. `spent` counts the nodes begun so far in the whole evaluation.
 
 ghost use Rattle.std.specs.Prelude.{◌≡◌, ◌+◌, ◌<◌, ◌≤◌, ℕ, length, Some, OnOk};
-ghost use Rattle.msl_muscle.specs.Budget.{ended, spend, value_over, binary_over, choice_over, binding_over, looping_over, calling_over};
+ghost use Rattle.msl_muscle.specs.Budget.{ended, spend, value_over, minus_over, opposite_over, binary_over, choice_over, binding_over, looping_over, calling_over};
 ghost use Rattle.msl_muscle.specs.Checks.{AreFuns, widths_of};
 ghost use Rattle.msl_muscle.specs.Evaluable.{IsEvaluable, AreEvaluable};
 
@@ -11,8 +11,10 @@ use crate::{BinOp, EvalFault, Expr, Fun};
 
 const MOST_BEGUN: u64 = 10_000_000;
 
-// The value of an expression that may call the functions in `known`.
+// The value of an expression that may call the functions in `known`. It is compiled into each of its callers, so that
+// a literal or a variable takes no call.
 #[cycle(value)]
+#[inline(always)]
 pub fn value(known: &[Fun], e: &Expr, scope: &mut Scope, spent: &mut u64) -> Result<i64, EvalFault>
     requires known { AreFuns known.now }
     requires fits { IsEvaluable known.now (length scope.old) e.now }
@@ -26,14 +28,36 @@ pub fn value(known: &[Fun], e: &Expr, scope: &mut Scope, spent: &mut u64) -> Res
     match e {
         Expr::Lit(n) => Ok(*n),
         Expr::Slot(at) => Ok(scope.get(*at)),
-        Expr::Neg(a) => negated(value(known, a.get(), scope, spent)?),
-        Expr::Not(a) => Ok(truth(!is_true(value(known, a.get(), scope, spent)?))),
+        Expr::Neg(a) => minus(known, a.get(), scope, spent),
+        Expr::Not(a) => opposite(known, a.get(), scope, spent),
         Expr::Bin(op, a, b) => binary(known, *op, a.get(), b.get(), scope, spent),
         Expr::If(c, a, b) => choice(known, c.get(), a.get(), b.get(), scope, spent),
         Expr::Let(a, b) => binding(known, a.get(), b.get(), scope, spent),
         Expr::Loop(n, s, e) => looping(known, n.get(), s.get(), e.get(), scope, spent),
         Expr::Call(f, args) => calling(known, *f, args.as_slice(), scope, spent),
     }
+}
+
+// An operand, with the other sign.
+#[cycle(value)]
+fn minus(known: &[Fun], a: &Expr, scope: &mut Scope, spent: &mut u64) -> Result<i64, EvalFault>
+    requires known { AreFuns known.now }
+    requires a { IsEvaluable known.now (length scope.old) a.now }
+    ensures value { ended result spent.new ≡ spend spent.old (minus_over known.now a.now scope.old) }
+    ensures scope { OnOk result (scope.new ≡ scope.old) }
+{
+    negated(value(known, a, scope, spent)?)
+}
+
+// 1 where the operand is 0, else 0.
+#[cycle(value)]
+fn opposite(known: &[Fun], a: &Expr, scope: &mut Scope, spent: &mut u64) -> Result<i64, EvalFault>
+    requires known { AreFuns known.now }
+    requires a { IsEvaluable known.now (length scope.old) a.now }
+    ensures value { ended result spent.new ≡ spend spent.old (opposite_over known.now a.now scope.old) }
+    ensures scope { OnOk result (scope.new ≡ scope.old) }
+{
+    Ok(truth(!is_true(value(known, a, scope, spent)?)))
 }
 
 // Two operands and their operator; of `and` and `or` the second only where the first doesn't decide.

@@ -14,9 +14,11 @@ mod rank;
 mod scope;
 #[cfg(test)]
 mod tests;
+pub mod whole;
 
 pub use expr::{BinOp, Expr, Exprs};
 pub use fault::EvalFault;
 pub use funs::{Fun, Funs, Names};
 pub use muscle::{Muscle, Use};
+pub use parse::cursor::Cursor;
 pub use parse::{ParseFault, parse_fun, parse_fun_among};

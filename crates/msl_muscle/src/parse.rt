@@ -11,7 +11,7 @@ use msl_lex::Tokens;
 use std::alloc::Global;
 
 mod callee;
-mod cursor;
+pub mod cursor;
 mod declared;
 mod draft;
 mod expression;

@@ -1,9 +1,7 @@
 //! Sources, sinks and libraries that fail at one of their calls.
 
-use crate::fixture::{Outside, SQUARE, WORKING, run};
+use crate::fixture::{Outside, SEQ, SQUARE, WORKING, run};
 use std::test::Fail;
-
-const SEQ: &[&str] = &["seq", "script"];
 
 #[test]
 fn a_failing_call_ends_the_run(rt: HostRuntime) -> Result<(), Fail> {

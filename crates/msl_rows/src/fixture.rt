@@ -4,8 +4,14 @@ use msl_base::{Name, NoMemory};
 use msl_io::{Bytes, Calls, File, FileList, MemLibrary, MemSink, MemSource};
 use msl_run::{Status, Words, muesli_plain};
 use std::alloc::Global;
+use std::process::Abort;
+use std::test::Fail;
 
 pub const SQUARE: &str = "muesli 1;\nfun sq(x) = x * x;\nmain = atomic sq;\n";
+
+pub const SEQ: &[&str] = &["seq", "script"];
+
+pub const UNBUILT: &[u8] = b"muesli: not built yet\n";
 
 /// Which calls of which object fail, from 1, and how much one read gives and one write takes.
 #[derive(Clone, Copy)]
@@ -81,4 +87,55 @@ pub fn run(
     let mut err = MemSink::new(alloc, 65536, 4096, messages)?;
     let status = muesli_plain(alloc, &words, &mut lib, &mut src, &mut out, &mut err);
     Ok(Left { status, out, err })
+}
+
+/// The words, the script, the input; what is written, the message and the status.
+#[derive(Drop)]
+pub struct Row {
+    pub words: &'static [&'static str],
+    pub script: &'static str,
+    pub input: &'static [u8],
+    pub out: &'static [u8],
+    pub err: &'static [u8],
+    pub code: u8,
+}
+
+impl Row {
+    fn run(&self, alloc: Global) -> Result<Left, NoMemory> {
+        run(alloc, self.words, self.script, self.input, &WORKING)
+    }
+}
+
+/// A row of `seq` over the script.
+pub fn seq_row(
+    script: &'static str,
+    input: &'static [u8],
+    out: &'static [u8],
+    err: &'static [u8],
+    code: u8,
+) -> Row {
+    Row {
+        words: SEQ,
+        script,
+        input,
+        out,
+        err,
+        code,
+    }
+}
+
+/// A row of `seq` over a script that is none of those that are built.
+pub fn unbuilt(script: &'static str) -> Row {
+    seq_row(script, b"3\n", b"", UNBUILT, 2)
+}
+
+/// Runs each row and compares what it leaves behind.
+pub fn meet(rt: &impl Abort, alloc: Global, rows: &[Row]) -> Result<(), Fail> {
+    for row in rows {
+        let left = row.run(alloc)?;
+        assert_eq!(rt; left.status.code(), row.code, "status of {}", row.script);
+        assert_eq!(rt; left.out.held(), row.out, "output of {}", row.script);
+        assert_eq!(rt; left.err.held(), row.err, "message of {}", row.script);
+    }
+    Ok(())
 }

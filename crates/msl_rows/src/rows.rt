@@ -1,51 +1,10 @@
 //! Scripts, inputs and what comes of them, where nothing fails.
 
-use crate::fixture::{Left, SQUARE, WORKING, run};
-use msl_base::NoMemory;
-use std::alloc::Global;
+use crate::fixture::{Row, SEQ, SQUARE, UNBUILT, meet, seq_row};
 use std::test::Fail;
-
-/// The words, the script, the input; what is written, the message and the status.
-#[derive(Drop)]
-struct Row {
-    words: &'static [&'static str],
-    script: &'static str,
-    input: &'static [u8],
-    out: &'static [u8],
-    err: &'static [u8],
-    code: u8,
-}
-
-impl Row {
-    fn run(&self, alloc: Global) -> Result<Left, NoMemory> {
-        let outside = WORKING;
-        run(alloc, self.words, self.script, self.input, &outside)
-    }
-}
-
-const SEQ: &[&str] = &["seq", "script"];
 
 const USAGE: &[u8] =
     b"muesli: usage: muesli seq FILE, rounds FILE, run FILE, check FILE or demo N, with -p N and for run -t T\n";
-
-const UNBUILT: &[u8] = b"muesli: not built yet\n";
-
-fn seq_row(
-    script: &'static str,
-    input: &'static [u8],
-    out: &'static [u8],
-    err: &'static [u8],
-    code: u8,
-) -> Row {
-    Row {
-        words: SEQ,
-        script,
-        input,
-        out,
-        err,
-        code,
-    }
-}
 
 fn usage(words: &'static [&'static str]) -> Row {
     Row {
@@ -152,11 +111,5 @@ fn rows_are_met(rt: HostRuntime) -> Result<(), Fail> {
             code: 3,
         },
     ];
-    for row in &rows {
-        let left = row.run(rt.alloc())?;
-        assert_eq!(rt; left.status.code(), row.code, "status of {}", row.script);
-        assert_eq!(rt; left.out.held(), row.out, "output of {}", row.script);
-        assert_eq!(rt; left.err.held(), row.err, "message of {}", row.script);
-    }
-    Ok(())
+    meet(&rt, rt.alloc(), &rows)
 }

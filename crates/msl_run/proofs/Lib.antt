@@ -1,6 +1,5 @@
-pub mod Tables
-pub mod Forms
-pub mod Progress
 pub mod Endings
+pub mod FunScripts
+pub mod Progress
 pub mod Scripts
 pub mod Texts

@@ -1,31 +1,18 @@
 -- What scripts mean, from the functions that their stages are, and what is said of a run of a script's text.
-use Rattle.std.proofs.Common.{arith, ◌≡◌, ℕ, ◌<◌, ◌≤◌, List, [], ◌∷◌, length, ap, sym, refl, ◌∙◌, subst, Bool, true, false, ◌&&◌, Option, Some, None, inl, pos}
-use Rattle.std.specs.Prelude.{int_le, nat_le}
-use Rattle.std.specs.List.{list_all}
-use Rattle.std.proofs.lemmas.Bool.Decides.{nat_tests}
+use Rattle.std.proofs.Common.{arith, ◌≡◌, ℕ, ◌<◌, List, length, refl, subst, Option, Some, None, inl}
 use Rattle.msl_base.specs.Streams as streams
 use Rattle.msl_base.specs.Streams.{pointwise}
 use Rattle.msl_base.proofs.StreamLaws.{is_run}
 use Rattle.msl_muscle.specs.declared.funs.Fun.{Fun}
-use Rattle.msl_muscle.specs.declared.expr.Expr.{Expr}
-use Rattle.msl_muscle.specs.Checks as checks
-use Rattle.msl_muscle.specs.Checks.{MayFollow, names_after, where_true, and_then, depth, rank_called, rank_of}
 use Rattle.msl_io.specs.Fetching.{IsLonger}
-use Rattle.msl_muscle.proofs.Shapes.{binary_is}
-use Rattle.msl_run.proofs.Forms.{long_is_no_form}
-use Rattle.msl_run.specs.declared.form.Term.{Term}
-use Rattle.msl_run.specs.declared.form.Term.TheVariants.{Param, Digit}
-use Rattle.msl_run.specs.declared.form.Body.{Body}
-use Rattle.msl_run.specs.declared.form.Body.TheVariants.{One, Two}
 use Rattle.msl_run.specs.declared.script.Script.{Script}
 use Rattle.msl_run.specs.declared.script.Stage.{Stage}
 use Rattle.msl_run.specs.declared.script.Stage.TheVariants.{Atomic}
 use Rattle.msl_run.specs.declared.status.Status.{Status}
 use Rattle.msl_run.specs.declared.status.Status.TheVariants.{Done, Usage, Library, Unbuilt, Stream, Read, Write, Memory}
 use Rattle.msl_run.specs.Causes.{IsEnding, Count, Rises}
-use Rattle.msl_run.specs.FirstForm.{ReadsAs, is_name, is_letter, IsDigitBelow, AreDigitsBelow, term_expr, body_expr}
+use Rattle.msl_run.specs.FunScript.{ReadsAs}
 use Rattle.msl_run.specs.Headline.{RanTold}
-use Rattle.msl_run.specs.Operators.{bin_op}
 use Rattle.msl_run.specs.Places.{place_of}
 use Rattle.msl_run.specs.Stages.{SeqRuns, RunsMain, Runs, seq_run, atomic_outcome, HasStage, HasStages}
 use Rattle.msl_run.specs.TopCall.{Ends, RunsText, RunsFile, RunsCommand, PlainCause, IsComplete, IsRunnable}
@@ -50,70 +37,6 @@ ran_stage s a b h l status funs at e p r =
     (subst (λ (k : ℕ). RanTold (λ X Y. Y ≡ pointwise (atomic_outcome s.funs 1 k) X) a b h l status) p
     (subst (λ (fs : List Fun). RanTold (λ X Y. Y ≡ pointwise (atomic_outcome fs 1 at) X) a b h l status) e r))
 
--- ---- functions of the first form
-
-low_digit : (d : ℕ) → d < 10 → (int_le (pos 0) (pos d) && int_le (pos d) (pos 9223372036854775807)) ≡ true
-low_digit d below = grind (arith, nat_tests)
-
-term_names : (t : Term) (param : List ℕ) → IsDigitBelow t → names_after [] (term_expr t) (param ∷ []) [] ≡ Some []
-term_names Param param below = refl
-term_names (Digit d) param below = ap (λ (b : Bool). where_true b (Some [])) (low_digit d below)
-
-body_names : (b : Body) (param : List ℕ) → AreDigitsBelow b → names_after [] (body_expr b) (param ∷ []) [] ≡ Some []
-body_names (One t) param below = term_names t param below
-body_names (Two a op b) param below =
-    ap (λ (e : Expr). names_after [] e (param ∷ []) []) (binary_is (bin_op op) (term_expr a) (term_expr b))
-    ∙ ap (λ (o : Option (List (List ℕ))). and_then o (names_after [] (term_expr b) (param ∷ []))) (term_names a param below.0)
-    ∙ term_names b param below.1
-
-term_depth : (t : Term) → depth (term_expr t) ≡ 1
-term_depth Param = refl
-term_depth (Digit d) = refl
-
-body_depth : (b : Body) → depth (body_expr b) ≤ 2
-body_depth (One t) = omega (arith, term_depth t)
-body_depth (Two a op b) = omega (arith, ap depth (binary_is (bin_op op) (term_expr a) (term_expr b)), term_depth a, term_depth b)
-
-term_rank : (t : Term) (rank : ℕ → ℕ) → rank_called rank (term_expr t) ≡ 0
-term_rank Param rank = refl
-term_rank (Digit d) rank = refl
-
-body_rank : (b : Body) (rank : ℕ → ℕ) → rank_called rank (body_expr b) ≡ 0
-body_rank (One t) rank = term_rank t rank
-body_rank (Two a op b) rank = omega (arith, ap (rank_called rank) (binary_is (bin_op op) (term_expr a) (term_expr b)), term_rank a rank, term_rank b rank)
-
-first_of : (a b : Bool) → (a && b) ≡ true → a ≡ true
-first_of true b h = refl
-first_of false b h = cc
-
-real_name : (word : List ℕ) → is_name word ≡ true → checks.is_name word ≡ true
-real_name word h = first_of (checks.is_name word) (nat_le (length word) 8 && list_all is_letter word) h
-
--- the function of a form meets the rules on a first function
-pub form_fits : (f : Fun) (name param : List ℕ) (b : Body) → is_name name ≡ true → is_name param ≡ true → AreDigitsBelow b
-    → f.name ≡ name → f.params ≡ param ∷ [] → f.results ≡ body_expr b ∷ [] → f.names ≡ [] → MayFollow [] f
-form_fits f name param b named parammed below n ps rs ns = subst (MayFollow []) (sym same) first
-  where
-    made : Fun
-    made = record { name = name; params = param ∷ []; results = body_expr b ∷ []; names = [] }
-
-    same : f ≡ made
-    same = λ i. record { name = n i; params = ps i; results = rs i; names = ns i }
-
-    first : MayFollow [] made
-    first = record {
-      few_funs = omega arith;
-      name = ap (λ (t : Bool). t && true) (real_name name named);
-      params = ap (λ (t : Bool). (t && true) && true) (real_name param parammed);
-      some_params = omega arith;
-      few_params = omega arith;
-      some_results = omega arith;
-      few_results = omega arith;
-      bodies = ap (λ (o : Option (List (List ℕ))). and_then o (λ rest. Some rest)) (body_names b param below);
-      depth = omega (arith, body_depth b);
-      rank = omega (arith, body_rank b (rank_of []));
-    }
-
 -- ---- a run of a script's text
 
 pub runs_text : (text : List ℕ) (e : Ends) (s : Script) (status : Status) → ReadsAs text s → IsEnding status → RanTold (SeqRuns s) e.left e.left_now e.held e.held_now status → RunsText text e status
@@ -129,7 +52,7 @@ runs_text text e s Unbuilt is ending ran = absurd ending
 -- a file that is longer than a script may be
 pub long_runs : (file : Option (List ℕ)) (e : Ends) → IsLonger file 1048576 → RunsFile file e Unbuilt
 long_runs None e h = tt
-long_runs (Some text) e h = λ s is. long_is_no_form text s h is
+long_runs (Some text) e h = λ s is. absurd (omega (arith, is.short, h))
 
 -- ---- completeness
 

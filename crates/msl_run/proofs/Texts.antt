@@ -1,24 +1,7 @@
--- The texts of messages and names.
-use Rattle.std.proofs.Common.{arith, ◌≡◌, ℕ, ◌-◌, ◌<◌, ◌≤◌, List, [], ◌∷◌, ◌++◌, length, take, drop, get_or, true, ap, sym, ◌∙◌, append_assoc, append-nil, decimal}
+-- The texts of messages.
+use Rattle.std.proofs.Common.{arith, ◌≡◌, ℕ, ◌-◌, ◌≤◌, List, [], ◌∷◌, ◌++◌, length, take, drop, get_or, ap, sym, ◌∙◌, append_assoc, append-nil, decimal}
 use Rattle.std.proofs.Math.Seq.{take-length}
-use Rattle.std.specs.List.{list_all}
-use Rattle.std.specs.Str.{IsAscii, IsUtf8}
-use Rattle.std.proofs.lemmas.Str.{IsUtf8-from_ascii}
-use Rattle.std.proofs.lemmas.Str.Ascii.{IsAscii-nil, IsAscii-cons}
-use Rattle.std.proofs.lemmas.Bool.Decides.{nat_tests}
-use Rattle.msl_run.specs.FirstForm.{is_letter, is_name}
 use Rattle.msl_run.specs.Messages.{dotted, path_text}
-use Rattle.msl_run.proofs.Forms.{name_letters, short_of}
-
-ascii_letters : (w : List ℕ) → list_all is_letter w ≡ true → IsAscii w
-ascii_letters [] h = IsAscii-nil
-ascii_letters (c ∷ w) h =
-    let letter : c < 128 = grind (arith, nat_tests) in
-    let rest : list_all is_letter w ≡ true = grind (arith, nat_tests) in
-    IsAscii-cons c w letter (ascii_letters w rest)
-
-pub name_is_text : (w : List ℕ) → is_name w ≡ true → IsUtf8 w
-name_is_text w h = IsUtf8-from_ascii w (ascii_letters w (name_letters w (short_of w h)))
 
 path_text-cons : (child : ℕ) (steps : List ℕ) → path_text (child ∷ steps) ≡ decimal child ++ dotted steps
 path_text-cons child [] = sym (append-nil (decimal child))

@@ -1,10 +1,10 @@
 pub mod Causes
-pub mod FirstForm
-pub mod FormReading
+pub mod FunScript
 pub mod Headline
 pub mod Messages
-pub mod Operators
 pub mod Places
+pub mod Rows
+pub mod ScriptReading
 pub mod Stages
 pub mod Steps
 pub mod TopCall

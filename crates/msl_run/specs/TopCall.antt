@@ -2,7 +2,7 @@
 use Rattle.std.specs.Prelude.{ℕ, ◌≡◌, ◌⊎◌, ◌==◌, ◌&&◌, not, Bool, false, if◌then◌else◌, List, [], ◌∷◌, codes, Option, Some, None, ⊤}
 use Rattle.std.specs.Str.{bytes_eq}
 use Rattle.msl_run.specs.Causes.{Count, Rises, Stays}
-use Rattle.msl_run.specs.FirstForm.{ReadsAs}
+use Rattle.msl_run.specs.FunScript.{ReadsAs}
 use Rattle.msl_run.specs.Headline.{RanTold}
 use Rattle.msl_run.specs.Stages.{SeqRuns}
 use Rattle.msl_run.specs.declared.script.Script.{Script}

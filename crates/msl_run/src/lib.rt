@@ -1,12 +1,11 @@
 //! The commands of the program, and what each of them leaves behind.
 #![tactic(auto)]
 
-mod first_form;
-mod form;
 pub mod laws;
 mod message;
 mod run;
 mod script;
+mod script_reader;
 mod sequence;
 mod status;
 mod words;

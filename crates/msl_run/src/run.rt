@@ -1,11 +1,12 @@
-ghost use Rattle.std.specs.Prelude.{◌≡◌, ◌↔◌, ◌∷◌, [], ℕ, List, IfOk, MatchOption, Some};
+ghost use Rattle.std.specs.Prelude.{◌≡◌, ◌≤◌, ◌↔◌, ◌∷◌, [], ℕ, List, IfOk, MatchOption, Some, length};
 ghost use Rattle.msl_io.specs.Causes.{Rose};
 ghost use Rattle.msl_run.specs.Causes.{count, Rises, HandsOn};
+ghost use Rattle.msl_run.specs.FunScript.{most_bytes};
 ghost use Rattle.msl_run.specs.Messages.{Tells};
 ghost use Rattle.msl_run.specs.TopCall.{command, ends, RunsCommand, RunsFile, RunsText, PlainCause, IsRefusal, IsComplete, IsRunnable};
 
-use crate::first_form::read_script;
 use crate::message::tell;
+use crate::script_reader::read_script;
 use crate::sequence::run_sequence;
 use crate::status::Status;
 use crate::words::{Command, Words, WordsFault, command_of};
@@ -90,6 +91,7 @@ fn run_file<L: Library, S: Source, K: Sink>(
 
 // Runs the script of a text.
 fn run_text<S: Source, K: Sink>(alloc: Global, text: &[u8], src: &mut S, out: &mut K) -> Status
+    requires { length text.now ≤ most_bytes }
     ensures ran { RunsText text.now (ends (S.left src.old) (S.left src.new) (K.held out.old) (K.held out.new)) result }
     ensures began { (result ≡ Status.Usage → ⊥) × (result ≡ Status.Library → ⊥) }
     ensures flushed { HandsOn result (K.flushed out.new) (K.held out.new) }

@@ -12,6 +12,7 @@ ghost use Rattle.msl_muscle.specs.Checks.{is_name};
 ghost use Rattle.msl_muscle.specs.Reading.{place, says};
 ghost use Rattle.msl_muscle.specs.Front.{AreOpen, form, form_behind, IsNumber};
 ghost use Rattle.msl_muscle.specs.Grammar.{first_in, other_first, name_in, number_in};
+ghost use Rattle.msl_muscle.specs.Kinds.{kind_of};
 
 use crate::BinOp;
 use crate::parse::fault::ParseFault;
@@ -20,7 +21,7 @@ use crate::parse::reserved::is_reserved;
 use msl_lex::{Kind, Token, TokenKind};
 use std::marker::Model;
 
-// The tokens of a text that are still to be read, seen as what they say.
+/// The tokens of a text that are still to be read, the last of them its end, seen as what they say.
 #[derive(Drop)]
 pub struct Cursor<'a> {
     text: &'a [u8],
@@ -40,7 +41,7 @@ impl<'a> Model for Cursor<'a> {
 }
 
 impl<'a> Cursor<'a> {
-    // These tokens of this text.
+    /// These tokens of this text.
     pub fn new(text: &'a [u8], rest: &'a [Token]) -> Self
         requires open { AreOpen text.now rest.now }
         ensures { result ≡ map (lexeme_of text.now) rest.now }
@@ -48,7 +49,7 @@ impl<'a> Cursor<'a> {
         Cursor { text, rest }
     }
 
-    // How many tokens are left.
+    /// How many tokens are left.
     pub fn len(&self) -> usize
         ensures len { result ≡ length self.now }
         ensures some { 1 ≤ result }
@@ -56,14 +57,21 @@ impl<'a> Cursor<'a> {
         self.rest.len()
     }
 
-    // The place of the first token.
+    /// The place of the first token.
     pub fn place(&self) -> u32
         ensures { result ≡ place self.now }
     {
         self.rest[0].from
     }
 
-    // Whether the first token is this quoted text.
+    /// What the first token is.
+    pub fn kind(&self) -> TokenKind
+        ensures { result ≡ kind_of (form self.now) }
+    {
+        self.rest[0].kind
+    }
+
+    /// Whether the first token is this quoted text, a word or a sign.
     pub fn says(&self, text: &str) -> bool
         ensures { result ≡ says text.now (form self.now) }
     {
@@ -74,7 +82,7 @@ impl<'a> Cursor<'a> {
         }
     }
 
-    // Takes the first token.
+    /// Takes the first token.
     pub fn advance(&mut self)
         requires { form self.old ≢ close }
         ensures { self.new ≡ drop 1 self.old }
@@ -82,7 +90,7 @@ impl<'a> Cursor<'a> {
         self.rest = &self.rest[1..];
     }
 
-    // Takes the first token where it is this quoted text.
+    /// Takes the first token where it is this quoted text.
     pub fn take(&mut self, text: &str) -> bool
         ensures said { result ≡ says text.now (form self.old) }
         ensures taken { MatchBool result (self.new ≡ drop 1 self.old) (self.new ≡ self.old) }
@@ -94,7 +102,7 @@ impl<'a> Cursor<'a> {
         found
     }
 
-    // Takes the first token, which has to be this quoted text.
+    /// Takes the first token, which has to be this quoted text.
     pub fn expect(&mut self, text: &str) -> Result<(), ParseFault>
         ensures { MatchResult result (λ _. IsTrue (says text.now (form self.old)) × (self.new ≡ drop 1 self.old)) (λ e. (says text.now (form self.old) ≡ false) × (e ≡ fault.At Expected (place self.old))) }
     {
@@ -105,14 +113,14 @@ impl<'a> Cursor<'a> {
         }
     }
 
-    // The refusal of the first token where it can't stand.
+    /// The refusal of the first token where it can't stand.
     pub fn unexpected(&self) -> ParseFault
         ensures { result ≡ fault.At Expected (place self.now) }
     {
         ParseFault::At(Kind::Expected, self.place())
     }
 
-    // The refusal of the first token by a test of this kind.
+    /// The refusal of the first token by a test of this kind.
     pub fn refusal(&self, kind: Kind) -> ParseFault
         ensures { result ≡ fault.At kind (place self.now) }
     {
@@ -120,7 +128,7 @@ impl<'a> Cursor<'a> {
     }
 
     // What begins with the first token.
-    pub fn first(&self) -> First
+    pub(crate) fn first(&self) -> First
         ensures { result ≡ first_in (form self.now) (form_behind self.now) }
     {
         if self.says("if") {
@@ -157,7 +165,7 @@ impl<'a> Cursor<'a> {
         }
     }
 
-    // The name that the first token is, where it is one.
+    /// The name that the first token is, where it is one.
     pub fn name(&self) -> Option<&'a str>
         ensures name { MatchOption result (name_in (form self.now) ≡ None) (λ n. name_in (form self.now) ≡ Some n.now) }
         ensures is_name { MatchOption result Unit (λ n. IsTrue (is_name n.now)) }
@@ -169,7 +177,7 @@ impl<'a> Cursor<'a> {
         }
     }
 
-    // The value of the first token, a number.
+    /// The value of the first token, a number.
     pub fn number(&self) -> i64
         requires { IsNumber (form self.now) }
         ensures { result ≡ pos (number_in (form self.now)) }

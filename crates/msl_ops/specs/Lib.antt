@@ -1,0 +1,5 @@
+pub mod Table
+pub mod Gcd
+pub mod Meaning
+pub mod Lawful
+pub mod Keeping

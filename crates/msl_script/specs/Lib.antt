@@ -1,0 +1,4 @@
+pub mod Stages
+pub mod Operators
+pub mod ScriptGrammar
+pub mod Rows

@@ -1,0 +1,20 @@
+-- Names for the shapes of a stage whose parts are stages.
+use Rattle.std.specs.Prelude.{ℕ, List, [], ◌∷◌}
+use mathlib.Core.Former.{none_left, this, list}
+use Rattle.msl_script.specs.declared.stage.Stage.{Stage, Row_of-Stage, end_of-Stage, more_of-Stage}
+use Rattle.msl_script.specs.declared.stage.Stage.TheVariants.{Farm', Pipe'}
+
+pattern abbrev pub farm : ℕ → Stage → Stage
+farm n s = Farm' n tt (more_of-Stage s end_of-Stage)
+
+-- a list of stages as the parts of a pipe
+abbrev pub units : List Stage → List (Unit {0})
+units [] = []
+units (s ∷ ss) = tt ∷ units ss
+
+abbrev pub row : (ss : List Stage) → Row_of-Stage ((list this).count (units ss) none_left)
+row [] = end_of-Stage
+row (s ∷ ss) = more_of-Stage s (row ss)
+
+abbrev pub pipe : List Stage → Stage
+pipe ss = Pipe' (units ss) (row ss)
