@@ -52,12 +52,9 @@ impl Muscle<'_> {
         ensures { Answers (mean self.now.funs.now self.now.at args.now) result out.new }
     {
         let f = self.get();
-        evaluate(
-            self.known(),
-            f.results.as_slice(),
-            Scope::of_slice(args),
-            out,
-        )
+        let mut scope = Scope::new();
+        scope.extend(args);
+        evaluate(self.known(), f.results.as_slice(), &mut scope, out)
     }
 
     // The function, which meets the rules over those before it.
@@ -94,9 +91,10 @@ impl Use<'_> {
         ensures { Answers (mean self.now.f.funs.now self.now.f.at (self.now.extra ++ args.now)) result out.new }
     {
         let f = self.f.get();
-        let mut scope = Scope::of_slice(self.extra.as_slice());
+        let mut scope = Scope::new();
+        scope.extend(self.extra.as_slice());
         scope.extend(args);
-        evaluate(self.f.known(), f.results.as_slice(), scope, out)
+        evaluate(self.f.known(), f.results.as_slice(), &mut scope, out)
     }
 }
 
@@ -104,17 +102,17 @@ impl Use<'_> {
 fn evaluate(
     known: &[Fun],
     results: &[Expr],
-    mut scope: Scope,
+    scope: &mut Scope,
     out: &mut [i64],
 ) -> Result<u64, EvalFault>
     requires known { AreFuns known.now }
-    requires results { AreEvaluable known.now (length scope) results.now }
+    requires results { AreEvaluable known.now (length scope.old) results.now }
     requires out { length out.old ≡ length results.now }
-    ensures { Answers (values_over known.now results.now scope) result out.new }
+    ensures { Answers (values_over known.now results.now scope.old) result out.new }
 {
     let mut spent = 0;
     for i in 0..results.len() {
-        out[i] = value(known, &results[i], &mut scope, &mut spent)?;
+        out[i] = value(known, &results[i], scope, &mut spent)?;
     }
     Ok(spent)
 }

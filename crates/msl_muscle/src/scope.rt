@@ -32,18 +32,6 @@ impl Scope {
         }
     }
 
-    pub fn of_slice(xs: &[i64]) -> Scope
-        requires { length xs.now ≤ 32 }
-        ensures { result ≡ xs.now }
-    {
-        let mut values = [0; MOST_NAMES];
-        values[..xs.len()].copy_from_slice(xs);
-        Scope {
-            values,
-            len: xs.len(),
-        }
-    }
-
     pub fn get(&self, at: u32) -> i64
         requires { at < length self.now }
         ensures { result ≡ slice_index_or self.now at (pos 0) }

@@ -15,7 +15,7 @@ pub value-requires-clause-fits : goal.value-requires-clause-fits
 value-requires-clause-fits c =
     let known = c.args.known.now in
     let i = c.loop-i.i in
-    let n = length c.args.scope in
+    let n = length c.args.scope.now in
     let e = c.index-results-i.result in
     let split = split_at c.args.results.now i e c.loop-i-test.true c.index-results-i.is in
     subst (λ (xs : List ℤ). IsEvaluable known (length xs) e) (sym c.loop-i.invariant.scope)
@@ -24,7 +24,7 @@ value-requires-clause-fits c =
 pub returns-in_err-out : goal.returns-in_err-out
 returns-in_err-out c =
     let known = c.args.known.now in
-    let args = c.args.scope in
+    let args = c.args.scope.now in
     let i = c.loop-i.i in
     let e = c.index-results-i.result in
     let f = c.in_err-out.field-0.0 in
@@ -37,9 +37,9 @@ returns-in_err-out c =
 pub loop-i-preserved : goal.loop-i-preserved
 loop-i-preserved c =
     let known = c.args.known.now in
-    let args = c.args.scope in
+    let args = c.args.scope.now in
     let i = c.loop-i.i in
-    let n = length c.args.scope in
+    let n = length c.args.scope.now in
     let e = c.index-results-i.result in
     let x = c.in_ok-out.field-0 in
     let y = to_z w64 (of_z w64 c.in_ok-out.field-0) in
@@ -60,7 +60,7 @@ loop-i-preserved c =
 pub returns : goal.returns
 returns c =
     let known = c.args.known.now in
-    let args = c.args.scope in
+    let args = c.args.scope.now in
     let i = c.loop-i.i in
     let none = drop_of_length-le c.args.results.now c.loop-i-test.false in
     let all_out : take i c.loop-i.out ≡ c.loop-i.out = take_all i c.loop-i.out (omega (arith, c.loop-i.auto.out, c.requires.out, c.loop-i-test.false)) in
