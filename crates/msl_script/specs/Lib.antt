@@ -2,3 +2,10 @@ pub mod Stages
 pub mod Operators
 pub mod ScriptGrammar
 pub mod Rows
+pub mod Calls
+pub mod Data
+pub mod Divide
+pub mod Filters
+pub mod Searches
+pub mod Runs
+pub mod Meanings

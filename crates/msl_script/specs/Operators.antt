@@ -1,11 +1,10 @@
 -- Operators as a script names them.
-use Rattle.std.specs.Prelude.{ℕ, ℤ, pos, ◌≤ℤ◌, ◌≤◌, Bool, true, false, if◌then◌else◌, max, min}
+use Rattle.std.specs.Prelude.{ℕ, pos, ◌≤ℤ◌, Bool, true, false, max, min}
 use Rattle.std.proofs.Common.{arith}
 use Rattle.std.proofs.lemmas.Int.{ints}
 use Rattle.msl_ops.specs.declared.op.Op.{Op}
 use Rattle.msl_ops.specs.declared.op.OpKind.{OpKind}
 use Rattle.msl_ops.specs.declared.op.OpKind.TheVariants.{Sum, Min, Max, And, Or, Xor, Gcd, AddMod, MulMod}
-use Rattle.msl_ops.specs.Table.{greatest_modulus}
 
 abbrev pub has_modulus : OpKind → Bool
 has_modulus AddMod = true

@@ -1,5 +1,5 @@
 -- Scripts of the worked examples.
-use Rattle.std.specs.Prelude.{ℕ, pos, List, [], ◌∷◌, ◌++◌, codes}
+use Rattle.std.specs.Prelude.{ℕ, List, [], ◌∷◌, ◌++◌, codes}
 use Rattle.msl_ops.specs.declared.op.OpKind.TheVariants.{Sum}
 use Rattle.msl_muscle.specs.declared.expr.BinOp.TheVariants.{Mul}
 use Rattle.msl_muscle.specs.declared.expr.Expr.TheVariants.{Slot}

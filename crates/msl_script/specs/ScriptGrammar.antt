@@ -26,7 +26,7 @@
 --     stage  = "atomic" name | "filter" name
 --            | ("data" | "divcon" | "bnb") name "on" num
 --            | "farm" num "{" stage "}" | "pipe" "{" stage { ";" stage } "}"
-use Rattle.std.specs.Prelude.{◌≡◌, ℕ, ◌+◌, ◌*◌, Bool, true, false, not, ◌&&◌, ◌||◌, ◌==◌, nat_lt, nat_le, ℤ, pos, neg_ℤ, List, [], ◌∷◌, ◌++◌, length, map, position, slice_index_or, Option, Some, None, unwrap_or, Result, Ok, Err, if◌then◌else◌, codes}
+use Rattle.std.specs.Prelude.{◌≡◌, ℕ, ◌+◌, ◌*◌, Bool, true, false, not, ◌&&◌, ◌||◌, ◌==◌, nat_lt, nat_le, ℤ, pos, neg_ℤ, List, [], ◌∷◌, ◌++◌, length, map, slice_index_or, Option, Some, None, unwrap_or, Result, Ok, Err, if◌then◌else◌, codes}
 use Rattle.std.specs.Str.{bytes_eq}
 use Rattle.msl_lex.specs.declared.token.LexFault.{LexFault}
 use Rattle.msl_lex.specs.declared.token.LexFault.TheVariants as fault
@@ -38,7 +38,7 @@ use Rattle.msl_ops.specs.declared.op.OpKind.TheVariants.{Sum}
 use Rattle.msl_ops.specs.Table.{rows, kind_named}
 use Rattle.msl_muscle.specs.declared.funs.Fun.{Fun}
 use Rattle.msl_muscle.specs.Checks.{Text, is_among, names_of}
-use Rattle.msl_muscle.specs.Reading.{Refusal, Test, test, Move, takes, ends, stops, under, read, says}
+use Rattle.msl_muscle.specs.Reading.{Refusal, Test, test, Move, takes, ends, stops, read, says}
 use Rattle.msl_muscle.specs.Grammar.{name_in, place_among}
 use Rattle.msl_muscle.specs.Grammar as fun_grammar
 use Rattle.msl_script.specs.declared.data.Arg.{Arg}

@@ -1,8 +1,12 @@
-//! Worked examples of what texts are read as. Each function here is empty, and its contract is the examples.
+//! Worked examples of what texts are read as, and of what scripts make of streams. Each function here is empty, and
+//! its contract is the examples.
 
-ghost use Rattle.std.specs.Prelude.{◌≡◌, [], ◌++◌, codes, take, Ok, Err};
+ghost use Rattle.std.specs.Prelude.{◌≡◌, pos, negsuc, [], ◌∷◌, ◌++◌, codes, take, Ok, Err};
 ghost use Rattle.msl_lex.specs.declared.kind.Kind.TheVariants.{Expected, Version, InFarm, Unknown, Width, Number};
 ghost use Rattle.msl_script.specs.ScriptGrammar.{script_of_text};
+ghost use Rattle.msl_base.specs.Streams.{stream, done, failed};
+ghost use Rattle.msl_base.specs.declared.fault.Fault.TheVariants.{Ragged, Overflow, BoundBroken};
+ghost use Rattle.msl_script.specs.Meanings.{made_by, totals, moved, deviations, turned, squares_in_turn, range, pick, broken, pairs};
 ghost use Rattle.msl_script.specs.Rows.{head, squares_text, squares, sums_text, sums};
 
 /// Texts that are scripts.
@@ -25,4 +29,19 @@ pub fn refusals()
     ensures unfinished { script_of_text (codes "muesli 1;\nmain =") ≡ Err (Expected, 16) }
     ensures number { script_of_text (codes "muesli 1;\nfun f(x) = x + 9223372036854775808;\nmain = atomic f;\n") ≡ Err (Number, 25) }
     ensures version { script_of_text (codes "muesli 2;\n") ≡ Err (Version, 7) }
+{}
+
+/// What scripts make of streams, in the order of `seq`.
+pub fn meanings()
+    ensures scan { made_by sums_text ((pos 1 ∷ pos 2 ∷ pos 3 ∷ []) ∷ []) ≡ stream ((pos 1 ∷ pos 3 ∷ pos 6 ∷ []) ∷ []) done }
+    ensures fold { made_by totals ((pos 9223372036854775807 ∷ pos 1 ∷ negsuc 0 ∷ []) ∷ []) ≡ stream ((pos 9223372036854775807 ∷ []) ∷ []) done }
+    ensures blocks { made_by moved ((pos 1 ∷ pos 2 ∷ pos 3 ∷ pos 4 ∷ pos 5 ∷ pos 6 ∷ []) ∷ []) ≡ stream ((pos 5 ∷ pos 6 ∷ pos 1 ∷ pos 2 ∷ pos 3 ∷ pos 4 ∷ []) ∷ []) done }
+    ensures ragged { made_by moved ((pos 1 ∷ pos 2 ∷ pos 3 ∷ pos 4 ∷ []) ∷ []) ≡ stream [] (failed (Ragged 1)) }
+    ensures given { made_by deviations ((pos 1 ∷ pos 2 ∷ pos 3 ∷ pos 6 ∷ []) ∷ []) ≡ stream ((negsuc 7 ∷ negsuc 3 ∷ pos 0 ∷ pos 12 ∷ []) ∷ []) done }
+    ensures rotated { made_by turned ((pos 0 ∷ pos 1 ∷ pos 2 ∷ pos 3 ∷ pos 4 ∷ pos 5 ∷ pos 6 ∷ pos 7 ∷ pos 8 ∷ pos 9 ∷ pos 10 ∷ pos 11 ∷ pos 12 ∷ pos 13 ∷ pos 14 ∷ pos 15 ∷ []) ∷ []) ≡ stream ((pos 0 ∷ pos 1 ∷ pos 2 ∷ pos 3 ∷ pos 4 ∷ pos 5 ∷ pos 6 ∷ pos 7 ∷ pos 10 ∷ pos 11 ∷ pos 8 ∷ pos 9 ∷ pos 14 ∷ pos 15 ∷ pos 12 ∷ pos 13 ∷ []) ∷ []) done }
+    ensures piped { made_by squares_in_turn ((pos 2 ∷ []) ∷ (pos 55109 ∷ []) ∷ []) ≡ stream ((pos 16 ∷ []) ∷ []) (failed (Overflow 2)) }
+    ensures divided { made_by range ((pos 0 ∷ pos 10 ∷ []) ∷ (pos 0 ∷ pos 0 ∷ []) ∷ []) ≡ stream ((pos 45 ∷ []) ∷ (pos 0 ∷ []) ∷ []) done }
+    ensures filtered { made_by pairs ((pos 1 ∷ []) ∷ (pos 2 ∷ []) ∷ (pos 3 ∷ []) ∷ []) ≡ stream ((pos 1 ∷ pos 2 ∷ []) ∷ (pos 3 ∷ []) ∷ []) done }
+    ensures broken { made_by broken ((pos 0 ∷ []) ∷ []) ≡ stream [] (failed (BoundBroken 1 (0 ∷ []))) }
+    ensures searched { made_by pick ((pos 0 ∷ pos 0 ∷ pos 0 ∷ pos 7 ∷ []) ∷ []) ≡ stream ((pos 9 ∷ pos 3 ∷ pos 9 ∷ pos 7 ∷ pos 7 ∷ []) ∷ []) done }
 {}
