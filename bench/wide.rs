@@ -3,6 +3,10 @@
 use std::io::{self, BufRead, BufReader, BufWriter, Read, Write};
 use std::process::ExitCode;
 
+mod number;
+
+use number::value;
+
 const MOST_LINES: u64 = 4_294_967_295;
 const MOST_BYTES: u64 = 33_554_432;
 const MOST_NUMBERS: usize = 1_048_576;
@@ -13,19 +17,7 @@ fn number(word: &[u8]) -> Option<i64> {
         [b'+', digits @ ..] => (false, digits),
         digits => (false, digits),
     };
-    if digits.is_empty() {
-        return None;
-    }
-    let mut n: i64 = 0;
-    for d in digits {
-        if !d.is_ascii_digit() {
-            return None;
-        }
-        let d = i64::from(d - b'0');
-        n = n.checked_mul(10)?;
-        n = if negative { n.checked_sub(d)? } else { n.checked_add(d)? };
-    }
-    Some(n)
+    value(negative, digits)
 }
 
 // The numbers of a line without its LF, or why it is refused.

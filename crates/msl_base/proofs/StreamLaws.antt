@@ -3,7 +3,7 @@ use Rattle.std.proofs.Common.{◌≡◌, List, [], ◌∷◌, ◌++◌, map, Opt
 use Rattle.std.proofs.lemmas.List.Sorted.{IsPermutation-refl}
 use Rattle.std.proofs.lemmas.List.{map-append}
 use Rattle.msl_base.specs.declared.fault.Fault.{Fault}
-use Rattle.msl_base.specs.Streams.{Record, Outcome, Trial, Ending, done, failed, unread, cut, Stream, stream, before, tried, trial_of, AllTrue, goods, before_fault, first_fault, EndsBy, end_by, Pointwise, Unordered, pointwise, IsFunction, PrefixLaw, SoundBy, Sound}
+use Rattle.msl_base.specs.Streams.{Record, Outcome, Trial, Ending, done, failed, unread, cut, Stream, stream, before, tried, trial_of, AllTrue, goods, before_fault, first_fault, EndsBy, end_by, Pointwise, Unordered, pointwise, IsFunction, IsOpen, PrefixLaw, SoundBy, Sound}
 
 -- where nothing faults, what comes behind goes on
 none_append : (ts us : List Trial) → first_fault ts ≡ None → (before_fault (ts ++ us) ≡ before_fault ts ++ before_fault us) × (first_fault (ts ++ us) ≡ first_fault us)
@@ -17,7 +17,7 @@ fault_append [] us f h = cc
 fault_append ((x, Ok y) ∷ ts) us f h = let m = fault_append ts us f h in (ap (λ ys. y ∷ ys) m.0, m.1)
 fault_append ((x, Err g) ∷ ts) us f h = (refl, h)
 
-ends_so : (o : Option Fault) (e : Ending) → EndsBy o [] e (end_by o e)
+pub ends_so : (o : Option Fault) (e : Ending) → EndsBy o [] e (end_by o e)
 ends_so (Some f) e = refl
 ends_so None e = (refl, refl)
 
@@ -26,46 +26,54 @@ by_ends : (o : Option Fault) (rest : List Record) (e e' : Ending) → EndsBy o r
 by_ends (Some f) rest e e' h = h
 by_ends None rest e e' h = h.1
 
-ends_as : (o : Option Fault) (rest : List Record) (e e' : Ending) → EndsBy o rest e e' → (e' ≡ e) ⊎ ((f : Fault) × (e' ≡ failed f))
+pub ends_as : (o : Option Fault) (rest : List Record) (e e' : Ending) → EndsBy o rest e e' → (e' ≡ e) ⊎ ((f : Fault) × (e' ≡ failed f))
 ends_as None rest e e' h = inl h.1
 ends_as (Some f) rest e e' h = inr (f, h)
 
+-- no open end is a fault
+pub not_failed : (stop : Ending) (f : Fault) → IsOpen stop → stop ≡ failed f → ⊥
+not_failed unread f is h = cc
+not_failed cut f is h = cc
+not_failed done f is h = is
+not_failed (failed g) f is h = is
+
+-- an output that is open has no fault before it, and one that ends with a fault has met it
+pub open_is_whole : (o : Option Fault) (rest : List Record) (stop : Ending) → IsOpen stop → EndsBy o rest stop stop → (o ≡ None) × (rest ≡ [])
+open_is_whole None rest stop is h = (refl, h.0)
+open_is_whole (Some f) rest stop is h = absurd (not_failed stop f is h)
+
+pub fault_stays : (o : Option Fault) (rest more : List Record) (f : Fault) (stop e : Ending) → IsOpen stop → EndsBy o rest stop (failed f) → EndsBy o (rest ++ more) e (failed f)
+fault_stays (Some g) rest more f stop e is h = h
+fault_stays None rest more f stop e is h = absurd (not_failed stop f is (sym h.1))
+
 module _ (one : Record → Outcome → Type 0) where
-  true_append : (ts us : List Trial) → AllTrue one ts → AllTrue one us → AllTrue one (ts ++ us)
+  pub true_append : (ts us : List Trial) → AllTrue one ts → AllTrue one us → AllTrue one (ts ++ us)
   true_append [] us a b = b
   true_append (t ∷ ts) us a b = (a.0, true_append ts us a.1 b)
 
   abbrev pub IsTotal : Type 0
   IsTotal = (x : Record) → (r : Outcome) × one x r
 
-  trials_of : IsTotal → (X : List Record) → (ts : List Trial) × AllTrue one ts × (map tried ts ≡ X)
+  pub trials_of : IsTotal → (X : List Record) → (ts : List Trial) × AllTrue one ts × (map tried ts ≡ X)
   trials_of total [] = ([], tt, refl)
   trials_of total (x ∷ X) = let r = total x in let more = trials_of total X in ((x, r.0) ∷ more.0, (r.1, more.1), ap (λ l. x ∷ l) more.2)
 
-  -- a fault is no end of the input
-  fault_stays : (o : Option Fault) (rest more : List Record) (f : Fault) (e : Ending) → EndsBy o rest cut (failed f) → EndsBy o (rest ++ more) e (failed f)
-  fault_stays (Some g) rest more f e h = h
-  fault_stays None rest more f e h = cc
-
-  keeps_faults : (X more Y : List Record) (f : Fault) (e : Ending) → Pointwise one (stream X cut) (stream Y (failed f)) → Pointwise one (stream (X ++ more) e) (stream Y (failed f))
-  keeps_faults X more Y f e h = record {
+  keeps_faults : (X more Y : List Record) (f : Fault) (stop e : Ending) → IsOpen stop → Pointwise one (stream X stop) (stream Y (failed f))
+      → Pointwise one (stream (X ++ more) e) (stream Y (failed f))
+  keeps_faults X more Y f stop e is h = record {
     trials = h.trials;
     rest = h.rest ++ more;
     all = h.all;
     from = ap (λ l. l ++ more) h.from ∙ append_assoc (map tried h.trials) h.rest more;
     to = h.to;
-    ends = fault_stays (first_fault h.trials) h.rest more f e h.ends;
+    ends = fault_stays (first_fault h.trials) h.rest more f stop e is h.ends;
   }
 
-  cut_is_whole : (o : Option Fault) (rest : List Record) → EndsBy o rest cut cut → (o ≡ None) × (rest ≡ [])
-  cut_is_whole None rest h = (refl, h.0)
-  cut_is_whole (Some f) rest h = cc
-
   -- more trials behind trials without a fault
-  extended : (X Y : List Record) (us : List Trial) (e : Ending) → Pointwise one (stream X cut) (stream Y cut) → AllTrue one us
+  extended : (X Y : List Record) (us : List Trial) (stop e : Ending) → IsOpen stop → Pointwise one (stream X stop) (stream Y stop) → AllTrue one us
       → Pointwise one (stream (X ++ map tried us) e) (stream (Y ++ before_fault us) (end_by (first_fault us) e))
-  extended X Y us e h a =
-      let whole = cut_is_whole (first_fault h.trials) h.rest h.ends in
+  extended X Y us stop e is h a =
+      let whole = open_is_whole (first_fault h.trials) h.rest stop is h.ends in
       let both = none_append h.trials us whole.0 in
       record {
         trials = h.trials ++ us;
@@ -79,9 +87,9 @@ module _ (one : Record → Outcome → Type 0) where
 
   pub prefix_law : IsTotal → PrefixLaw (Pointwise one)
   prefix_law total = record {
-    goes_on = λ X more Y e h.
+    goes_on = λ X more Y stop e is h.
         let ts = trials_of total more in
-        (before_fault ts.0, end_by (first_fault ts.0) e, subst (λ (l : List Record). Pointwise one (stream (X ++ l) e) (stream (Y ++ before_fault ts.0) (end_by (first_fault ts.0) e))) ts.2 (extended X Y ts.0 e h ts.1));
+        (before_fault ts.0, end_by (first_fault ts.0) e, subst (λ (l : List Record). Pointwise one (stream (X ++ l) e) (stream (Y ++ before_fault ts.0) (end_by (first_fault ts.0) e))) ts.2 (extended X Y ts.0 stop e is h ts.1));
     keeps = keeps_faults;
     ends = λ X Y h. ends_as (first_fault h.trials) h.rest X.ending Y.ending h.ends;
   }

@@ -3,7 +3,7 @@
 --     Unordered one X Y      the same by several workers at once: the results in any order
 --     pointwise f X          the first as a function, for a function f from records to outcomes
 --     Sound R X Y            Y is a whole answer to X, or the beginning of one
-use Rattle.std.specs.Prelude.{◌≡◌, ℤ, List, [], ◌∷◌, ◌++◌, map, Option, Some, None, Result, Ok, Err, IsPermutation, ◌⊎◌}
+use Rattle.std.specs.Prelude.{◌≡◌, ℤ, List, [], ◌∷◌, ◌++◌, map, Option, Some, None, Result, Ok, Err, IsPermutation, ◌⊎◌, ⊤}
 use Rattle.msl_base.specs.declared.fault.Fault.{Fault}
 
 abbrev pub Record : Type 0
@@ -100,12 +100,19 @@ pointwise f X =
 
 -- ---- laws of a stage's relation
 
+-- a stream that ends so may be the beginning of another
+abbrev pub IsOpen : Ending → Type 0
+IsOpen unread = ⊤
+IsOpen cut = ⊤
+IsOpen done = ⊥
+IsOpen (failed f) = ⊥
+
 -- What was made of the beginning of a stream stands at the front of what is made of the whole, a fault that was met
 -- on the beginning is met on the whole, and the output ends as the input or with a fault.
 pub record PrefixLaw (R : Stream → Stream → Type 0) : Type 0 where
-  pub goes_on : (X more Y : List Record) (e : Ending) → R (stream X cut) (stream Y cut)
+  pub goes_on : (X more Y : List Record) (stop e : Ending) → IsOpen stop → R (stream X stop) (stream Y stop)
       → (rest : List Record) × (end : Ending) × R (stream (X ++ more) e) (stream (Y ++ rest) end)
-  pub keeps : (X more Y : List Record) (f : Fault) (e : Ending) → R (stream X cut) (stream Y (failed f)) → R (stream (X ++ more) e) (stream Y (failed f))
+  pub keeps : (X more Y : List Record) (f : Fault) (stop e : Ending) → IsOpen stop → R (stream X stop) (stream Y (failed f)) → R (stream (X ++ more) e) (stream Y (failed f))
   pub ends : (X Y : Stream) → R X Y → (Y.ending ≡ X.ending) ⊎ ((f : Fault) × (Y.ending ≡ failed f))
 
 -- the relation is the function

@@ -1,7 +1,7 @@
 use crate::Path;
 
 /// Why a stream ends before its end. A line's number and a stage's number count from 1; a path leads from the
-/// root of a search to the node that faults.
+/// root of a division or a search to the node that faults.
 #[derive(Clone, Copy, Debug)]
 pub enum Fault {
     /// The line of this number isn't the text of a record.
@@ -18,19 +18,19 @@ pub enum Fault {
     Overflow(u32),
     /// At this stage a number is divided by 0.
     DivZero(u32),
-    /// At this stage an evaluation takes more steps than it may.
+    /// At this stage an evaluation begins more than 10,000,000 nodes.
     Steps(u32),
-    /// At this stage a count is outside its range.
+    /// At this stage a count isn't from 0 to 64.
     Count(u32),
     /// At this stage a map of places isn't one to one.
     NotPermutation(u32),
     /// At this stage blocks that are to change places differ in size.
     Ragged(u32),
-    /// At this stage a node of a search lies too deep.
+    /// At this stage a division or a search needs more than 64 levels; the path leads to the node that does.
     Depth(u32, Path),
     /// At this stage a node's bound is below its parent's, or its value below its bound.
     BoundBroken(u32, Path),
-    /// At this stage a solution's value is none that a value may be.
+    /// At this stage a solution has the value 9223372036854775807, which none may have.
     Value(u32, Path),
 }
 

@@ -43,7 +43,7 @@ module _ (p : ℕ → Bool) where
   pub fails_first : (c : ℕ) (more : List ℕ) → p c ≡ false → list_all p (c ∷ more) ≡ true → ⊥
   fails_first c more e h = let h2 = rw e at h in cc
 
-  no_more : (c : ℕ) (cs more rest : List ℕ) → p c ≡ false → c ∷ cs ≡ more ++ rest → list_all p more ≡ true → more ≡ []
+  pub no_more : (c : ℕ) (cs more rest : List ℕ) → p c ≡ false → c ∷ cs ≡ more ++ rest → list_all p more ≡ true → more ≡ []
   no_more c cs [] rest e split h = refl
   no_more c cs (d ∷ more) rest e split h =
       let same : d ≡ c = cc in
@@ -232,10 +232,10 @@ module _ (c : ℕ) (cs : List ℕ) (no_long : list_any (bytes_eq (take 2 (c ∷ 
     tt,
   )
 
-short_sign : (s : List ℕ) → is_sign s ≡ true → length s ≤ 2
+pub short_sign : (s : List ℕ) → is_sign s ≡ true → length s ≤ 2
 short_sign s h = let most = any_has (λ t. nat_le (length t) 2) s signs refl h in grind (arith, nat_tests)
 
-empty : (xs : List ℕ) → length xs ≡ 0 → xs ≡ []
+pub empty : (xs : List ℕ) → length xs ≡ 0 → xs ≡ []
 empty [] h = refl
 empty (x ∷ xs) h = absurd (omega arith)
 

@@ -2,6 +2,7 @@ pub mod Numbers
 pub mod Fronts
 pub mod Layouts
 pub mod Orders
+pub mod Printings
 pub mod Readings
 pub mod Said
 pub mod Spellings

@@ -72,7 +72,7 @@ gap_passed after (comment inside gap all line g) at =
 
 -- ---- tokens
 
-both : (a b : Bool) → (a && b) ≡ true → (a ≡ true) × (b ≡ true)
+pub both : (a b : Bool) → (a && b) ≡ true → (a ≡ true) × (b ≡ true)
 both true b h = (refl, h)
 both false b h = cc
 
@@ -142,7 +142,7 @@ number_piece at (c ∷ s) after longest =
 -- ---- signs
 
 -- what begins nothing but a sign
-abbrev begins_sign : ℕ → Bool
+abbrev pub begins_sign : ℕ → Bool
 begins_sign c = not (is_blank c || c == 35 || is_letter c || is_digit c)
 
 abbrev first_begins : List ℕ → Bool
@@ -156,7 +156,7 @@ none_of false true c d h = cc
 none_of false false true d h = cc
 none_of false false false true h = cc
 
-sign_begins : (c : ℕ) (s : List ℕ) → is_sign (c ∷ s) ≡ true → begins_sign c ≡ true
+pub sign_begins : (c : ℕ) (s : List ℕ) → is_sign (c ∷ s) ≡ true → begins_sign c ≡ true
 sign_begins c s h = any_has first_begins (c ∷ s) signs refl h
 
 sign_other : (at c : ℕ) (s cs : List ℕ) → is_sign (c ∷ s) ≡ true → first_piece at (c ∷ cs) ≡ sign_at at c (c ∷ cs)
@@ -240,7 +240,7 @@ fault_has_byte at (long_name s rest longest h) = omega (arith, has_byte kind.Wor
 fault_has_byte at (great_number s rest longest h) = omega (arith, has_byte kind.Number s longest.is_one, length-append s rest)
 
 -- the lexemes of a token's spelling and what comes after it
-lexemes_from-token : (from to : ℕ) (k : TokenKind) (s rest : List ℕ) → IsLongest k s rest → IsInLimits k s → to ≡ from + length s → lexemes_from 0 from (s ++ rest) ≡ with_first (lexeme (form_of k s) from to) (lexemes_from 0 to rest)
+pub lexemes_from-token : (from to : ℕ) (k : TokenKind) (s rest : List ℕ) → IsLongest k s rest → IsInLimits k s → to ≡ from + length s → lexemes_from 0 from (s ++ rest) ≡ with_first (lexeme (form_of k s) from to) (lexemes_from 0 to rest)
 lexemes_from-token from to k s rest longest limits e =
     let n = length s in
     let within : IsWithin (s ++ rest) (piece.Token k n) = (has_byte k s longest.is_one, omega (arith, length-append s rest)) in

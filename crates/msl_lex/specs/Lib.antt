@@ -3,3 +3,4 @@ pub mod Lexemes
 pub mod Layout
 pub mod Pieces
 pub mod Places
+pub mod Printing

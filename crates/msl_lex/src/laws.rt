@@ -1,10 +1,11 @@
 //! Laws of texts and their tokens. Each function is empty, and its contract is the law.
 
-ghost use Rattle.std.specs.Prelude.{◌≡◌, [], ◌∷◌, Ok, Err, List, Result, All, codes, length};
+ghost use Rattle.std.specs.Prelude.{◌≡◌, [], ◌∷◌, Ok, Err, List, Result, All, IsTrue, codes, length};
 ghost use Rattle.msl_lex.specs.declared.token.LexFault.TheVariants.{Byte};
 ghost use Rattle.msl_lex.specs.declared.token.LexFault.{LexFault};
 ghost use Rattle.msl_lex.specs.Lexemes.{AreTokensOf, Lexeme, lexemes, lexeme, word, sign, number, close};
 ghost use Rattle.msl_lex.specs.Layout.{ReadsAs};
+ghost use Rattle.msl_lex.specs.Printing.{Bit, is_laid, SaysAll};
 ghost use Rattle.msl_lex.specs.Places.{AreInOrder, LiesWithin, ClosesLast, IsSpelt};
 
 use crate::Tokens;
@@ -29,6 +30,12 @@ pub fn tokens_are_in_order(text: &[u8], tokens: &Tokens)
 pub fn tokens_are_spelt(text: &[u8], tokens: &Tokens)
     requires { AreTokensOf text.now tokens.now }
     ensures { All (IsSpelt text.now) tokens.now }
+{}
+
+/// A text put together from tokens and blanks, where no two tokens touch that would be others then, has
+/// just these tokens, and its end.
+pub fn laid_text_is_read()
+    ensures { (bits : List Bit) → IsTrue (is_laid bits) → SaysAll bits }
 {}
 
 /// Some texts and what they say.

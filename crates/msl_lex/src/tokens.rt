@@ -30,7 +30,7 @@ impl Tokens {
         }
     }
 
-    /// Appends a token.
+    /// Appends a token, or leaves the list as it is where memory runs out.
     pub fn add(&mut self, token: Token) -> Result<(), NoMemory>
         ensures ok { OnOk result (self.new ≡ self.old ++ token ∷ []) }
         ensures err { OnErr result (self.new ≡ self.old) }

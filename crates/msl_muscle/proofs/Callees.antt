@@ -52,7 +52,7 @@ with_widths None f is = cc
 with_widths (Some g) f is = refl
 
 module _ (funs : List Fun) (k : ℕ) (within : k < length funs) where
-  widths_are : widths_of funs k ≡ Some (params_of funs k, results_of funs k)
+  pub widths_are : widths_of funs k ≡ Some (params_of funs k, results_of funs k)
   widths_are = ⊎_elim (λ f. with_widths (slice_get funs k) f.0 f.2) (λ none. absurd (omega (arith, none.0))) (slice_get_cases funs k).1
 
   results_are : (others : List Text) → results_at funs others k ≡ results_of funs k

@@ -76,7 +76,7 @@ call_is funs k f e found is args =
 
 -- ---- what the rules give
 
-slice_get_outside : (fs : List Fun) (k : ℕ) → slice_get fs k ≡ None → length fs ≤ k
+pub slice_get_outside : (fs : List Fun) (k : ℕ) → slice_get fs k ≡ None → length fs ≤ k
 slice_get_outside [] k h = omega arith
 slice_get_outside (f ∷ fs) zero h = absurd cc
 slice_get_outside (f ∷ fs) (suc k) h = omega (arith, slice_get_outside fs k h)
@@ -115,11 +115,11 @@ few_arguments funs k n rules h = of_lookup (slice_get funs k) refl
     of_lookup (Some f) found = omega (arith, (called funs k n f h found).params, (rules.each k f found).few_params)
 
 -- where a test and what follows it hold
-held : (b : Bool) (o : Option (List Text)) (rest : List Text) → where_true b o ≡ Some rest → (b ≡ true) × (o ≡ Some rest)
+pub held : (b : Bool) (o : Option (List Text)) (rest : List Text) → where_true b o ≡ Some rest → (b ≡ true) × (o ≡ Some rest)
 held true o rest h = (refl, h)
 held false o rest h = absurd cc
 
-parts : (o : Option (List Text)) (go : List Text → Option (List Text)) (rest : List Text) → and_then o go ≡ Some rest → (mid : List Text) × (o ≡ Some mid) × (go mid ≡ Some rest)
+pub parts : (o : Option (List Text)) (go : List Text → Option (List Text)) (rest : List Text) → and_then o go ≡ Some rest → (mid : List Text) × (o ≡ Some mid) × (go mid ≡ Some rest)
 parts None go rest h = absurd cc
 parts (Some mid) go rest h = (mid, refl, h)
 
@@ -129,7 +129,7 @@ record Bound (scope : List Text) (go : Text → List Text → Option (List Text)
   few : length scope < 32
   goes : go name more ≡ Some rest
 
-both_hold : (a b : Bool) → (a && b) ≡ true → (a ≡ true) × (b ≡ true)
+pub both_hold : (a b : Bool) → (a && b) ≡ true → (a ≡ true) × (b ≡ true)
 both_hold true b h = (refl, h)
 both_hold false b h = absurd cc
 
@@ -139,7 +139,7 @@ bound scope (n ∷ names) go rest h =
     let all = held _ _ rest h in
     record { name = n; more = names; few = ltb-true (length scope) 32 (both_hold _ _ all.0).1; goes = all.1 }
 
-takes_is : (o : Option (ℕ × ℕ)) (n : ℕ) → takes o n ≡ true → o ≡ Some (n, 1)
+pub takes_is : (o : Option (ℕ × ℕ)) (n : ℕ) → takes o n ≡ true → o ≡ Some (n, 1)
 takes_is None n h = absurd cc
 takes_is (Some w) n h =
     let both = both_hold _ _ h in

@@ -112,6 +112,10 @@ size_some (binding a b) = omega arith
 size_some (looping n s e) = omega arith
 size_some (Call' f _ args) = omega arith
 
+pub size-more : (e : Expr) (es : List Expr) → size_of_all (e ∷ es) ≡ size_of e + size_of_all es + 1
+unfolding size_of_all
+size-more e es = refl
+
 -- a function is smaller than the list in which it stands
 pub size_before : (fs : List Fun) (k : ℕ) (f : Fun) (e : Expr) (es : List Expr) → slice_get fs k ≡ Some f → f.results ≡ e ∷ es → size_of_funs (take k fs) + size_of e < size_of_funs fs
 unfolding size_of_funs size_of_all

@@ -52,7 +52,7 @@ module _ (funs : List Fun) (others : List Text) where
     begun true true h = h
 
   -- a function has a token
-  some_read : (ts : List Lexeme) (f : Fun) (rest : List Lexeme) → read_fun funs others ts ≡ Ok (f, rest) → length rest < length ts
+  pub some_read : (ts : List Lexeme) (f : Fun) (rest : List Lexeme) → read_fun funs others ts ≡ Ok (f, rest) → length rest < length ts
   some_read [] f rest h = cc
   some_read (t ∷ ts) f rest h =
       let less = (left_over ts fun_name f rest (begun t ts f rest (reading funs others ts) _ _ h)).shorter in
@@ -66,6 +66,3 @@ module _ (funs : List Fun) (others : List Text) where
         let less = some_read (drop from ts) f rest here in
         let e : from + (length (drop from ts) - length rest) ≡ length ts - left = omega (arith, less, is_left, length-drop from ts) in
         h.end ∙ drop-drop (length (drop from ts) - length rest) from ts ∙ ap (λ n. drop n ts) e
-
-    pub goes_on : from < length ts - left
-    goes_on = omega (arith, some_read (drop from ts) f rest here, is_left, length-drop from ts)

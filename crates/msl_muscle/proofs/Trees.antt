@@ -17,7 +17,7 @@ pub behind_one : (es : List Expr) (e : Expr) (r : Option (List Expr)) → behind
 behind_one es e None = refl
 behind_one es e (Some fs) = ap Some (sym (append_assoc es (e ∷ []) fs))
 
-row_depth : (es : List Expr) → greatest_depth (row es) ≡ greatest depth es
+pub row_depth : (es : List Expr) → greatest_depth (row es) ≡ greatest depth es
 row_depth [] = refl
 row_depth (e ∷ es) = ap (max (depth e)) (row_depth es)
 

@@ -43,7 +43,7 @@ module _ (t : Lexeme) (ts : List Lexeme) (k : Text → State) (behind : State �
   twice (Some m) true true n is room there = cc
 
 module _ (funs : List Fun) (others : List Text) where
-  reads_name : (ts : List Lexeme) (scope : List Text) (n : Text) (k : Text → State) → name_in (form ts) ≡ Some n → length scope < 32 → is_among scope n ≡ false →
+  pub reads_name : (ts : List Lexeme) (scope : List Text) (n : Text) (k : Text → State) → name_in (form ts) ≡ Some n → length scope < 32 → is_among scope n ≡ false →
       reading funs others ts (new_name scope k) ≡ reading funs others (drop 1 ts) (k n)
   reads_name [] scope n k is few free = cc
   reads_name (t ∷ ts) scope n k is few free =

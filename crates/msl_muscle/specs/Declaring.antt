@@ -106,10 +106,8 @@ module _ (funs : List Fun) (others : List Text) where
     pub names : new.names ≡ old.names
     pub goes : (n : Text) (params ns : List Text) → reading funs others old.cursor (end_fun (head n at params) ns results) ≡ reading funs others new.cursor (done (function_of funs others (head n at params) ns results))
 
-  -- these tokens begin with this function, which keeps the rules, and so many are left
-  pub record ReadsFun (ts : List Lexeme) (f : Fun) (left : ℕ) : Type 0 where
-    pub rest : List Lexeme
+  -- these tokens begin with this function, which keeps the rules, and the rest is behind it
+  pub record ReadsFun (ts : List Lexeme) (f : Fun) (rest : List Lexeme) : Type 0 where
     pub read : read_fun funs others ts ≡ Ok (f, rest)
-    pub is_left : length rest ≡ left
-    pub some : 1 ≤ left
+    pub shorter : length rest < length ts
     pub rules : MayFollow funs f

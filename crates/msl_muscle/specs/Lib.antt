@@ -6,6 +6,8 @@ pub mod Budget
 pub mod Checks
 pub mod Reading
 pub mod Front
+pub mod FunText
+pub mod Writing
 pub mod Grammar
 pub mod Kinds
 pub mod Evaluable

@@ -4,10 +4,10 @@ use Rattle.msl_lex.specs.Lexemes.{Lexeme, lexemes}
 use Rattle.msl_lex.specs.declared.token.LexFault.{LexFault}
 use Rattle.msl_lex.specs.declared.token.LexFault.TheVariants as fault
 use Rattle.msl_lex.specs.declared.kind.Kind.TheVariants.{Byte, LongName, Number}
-use Rattle.msl_muscle.specs.declared.expr.BinOp.TheVariants.{Mul, Sub}
+use Rattle.msl_muscle.specs.declared.expr.BinOp.TheVariants.{Add, Mul, Sub, Min, Max}
 use Rattle.msl_muscle.specs.declared.expr.Expr.TheVariants.{Lit, Slot}
 use Rattle.msl_muscle.specs.declared.funs.Fun.{Fun}
-use Rattle.msl_muscle.specs.Shapes.{binary}
+use Rattle.msl_muscle.specs.Shapes.{minus, opposite, binary, choice, binding}
 use Rattle.msl_muscle.specs.Reading.{Refusal}
 use Rattle.msl_muscle.specs.Grammar.{read_fun}
 
@@ -33,3 +33,12 @@ square = record { name = codes "f"; params = codes "x" ∷ []; results = binary 
 -- fun f(x) = 1 - x - 2;
 abbrev pub differences : Fun
 differences = record { name = codes "f"; params = codes "x" ∷ []; results = binary Sub (binary Sub (Lit (pos 1)) (Slot 0)) (Lit (pos 2)) ∷ []; names = [] }
+
+-- fun f(x) = -(-min(not (let y = x in y), max(x, if x then 1 else 2) + 3));
+abbrev pub nested : Fun
+nested = record {
+  name = codes "f";
+  params = codes "x" ∷ [];
+  results = minus (minus (binary Min (opposite (binding (Slot 0) (Slot 1))) (binary Add (binary Max (Slot 0) (choice (Slot 0) (Lit (pos 1)) (Lit (pos 2)))) (Lit (pos 3))))) ∷ [];
+  names = codes "y" ∷ [];
+}

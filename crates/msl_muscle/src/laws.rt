@@ -48,6 +48,7 @@ pub fn short_circuits()
     ensures neither { mean funs 3 (pos 5 ∷ pos 3 ∷ []) ≡ counted (Ok (pos 0 ∷ pos 0 ∷ [])) 11 }
 {}
 
+/// A call costs its own node, its arguments and what it evaluates in the function.
 pub fn calls_of_functions()
     ensures below { mean funs 4 (pos 4 ∷ []) ≡ counted (Ok (pos 10 ∷ [])) 29 }
     ensures above { mean funs 4 (negsuc 4 ∷ []) ≡ counted (Ok (pos 10 ∷ [])) 27 }

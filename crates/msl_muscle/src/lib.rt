@@ -1,4 +1,4 @@
-// Functions of whole numbers, and their evaluation.
+//! The functions on whole numbers of a script: their reading from tokens, their evaluation, and their text.
 #![tactic(auto)]
 
 mod build;
@@ -14,6 +14,8 @@ mod rank;
 mod scope;
 #[cfg(test)]
 mod tests;
+mod text;
+pub mod text_laws;
 pub mod whole;
 
 pub use expr::{BinOp, Expr, Exprs};
@@ -21,4 +23,5 @@ pub use fault::EvalFault;
 pub use funs::{Fun, Funs, Names};
 pub use muscle::{Muscle, Use};
 pub use parse::cursor::Cursor;
-pub use parse::{ParseFault, parse_fun, parse_fun_among};
+pub use parse::{ParseFault, parse_fun, parse_fun_at};
+pub use text::fun_text;

@@ -1,7 +1,9 @@
-ghost use Rattle.std.specs.Prelude.{◌<◌, [], length, map, IfOk};
+ghost use Rattle.std.specs.Prelude.{◌≡◌, ◌<◌, [], length, map, Ok, IfOk, MatchResult};
 ghost use Rattle.msl_lex.specs.Lexemes.{AreTokensOf, lexeme_of};
 ghost use Rattle.msl_muscle.specs.Checks.{MayFollow};
+ghost use Rattle.msl_muscle.specs.Grammar.{read_fun};
 ghost use Rattle.msl_muscle.specs.Parse.{IsFunAt};
+ghost use Rattle.msl_muscle.specs.Parsing.{IsRefused};
 
 use crate::parse::cursor::Cursor;
 use crate::parse::declared::Declared;
@@ -61,35 +63,32 @@ pub fn parse_fun(
     ensures rules { IfOk result (λ r. MayFollow funs.now r.0) }
     ensures within { IfOk result (λ r. (from < r.1) × (r.1 < length toks.now)) }
 {
-    parse_fun_among(alloc, text, toks, from, funs, &[])
+    let toks = toks.as_slice();
+    let (fun, rest) = parse_fun_at(alloc, Cursor::new(text, &toks[from..]), funs, &[])?;
+    Ok((fun, toks.len() - rest.len()))
 }
 
-/// Reads a function as `parse_fun` does, with names that are declared for other things than functions: the function
-/// can't have one of them, and a call of one is refused.
+/// Reads the function that begins with the first token of a cursor, as `parse_fun` does, with names that are declared
+/// for other things than functions: the function can't have one of them, and a call of one is refused. It gives the
+/// function, and the cursor behind its `;`.
 ///
 /// # Errors
 ///
 /// Those of `parse_fun`: `Twice` where the function has one of the names, and `WrongKind` where it calls one.
-pub fn parse_fun_among(
+pub fn parse_fun_at<'a>(
     alloc: Global,
-    text: &[u8],
-    toks: &Tokens,
-    from: usize,
+    cursor: Cursor<'a>,
     funs: &Funs,
     others: &[Name],
-) -> Result<(Fun, usize), ParseFault>
-    requires tokens { AreTokensOf text.now toks.now }
-    requires from { from < length toks.now }
-    ensures read { IsFunAt funs.now others.now (map (lexeme_of text.now) toks.now) from result }
+) -> Result<(Fun, Cursor<'a>), ParseFault>
+    ensures read { MatchResult result (λ r. read_fun funs.now others.now cursor.entry ≡ Ok (r.0, r.1)) (IsRefused (read_fun funs.now others.now cursor.entry)) }
     ensures rules { IfOk result (λ r. MayFollow funs.now r.0) }
-    ensures within { IfOk result (λ r. (from < r.1) × (r.1 < length toks.now)) }
+    ensures shorter { IfOk result (λ r. length r.1 < length cursor.entry) }
 {
-    let toks = toks.as_slice();
     let declared = Declared {
         alloc,
         funs,
         others,
     };
-    let (fun, left) = declared.fun(Cursor::new(text, &toks[from..]))?;
-    Ok((fun, toks.len() - left))
+    declared.fun(cursor)
 }

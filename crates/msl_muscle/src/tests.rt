@@ -7,7 +7,7 @@ ghost use Rattle.msl_muscle.specs.declared.expr.BinOp.TheVariants.{Div};
 ghost use Rattle.msl_muscle.specs.declared.expr.Expr.TheVariants.{Lit, Slot};
 
 use crate::number::operate;
-use crate::{BinOp, EvalFault, Expr, Exprs, Fun, Funs, Muscle, Names, Use};
+use crate::{BinOp, EvalFault, Expr, Exprs, Fun, Funs, Muscle, Names, Use, fun_text};
 use msl_base::{Name, NoMemory, Small};
 use sqlite_items::Items;
 use std::alloc::Global;
@@ -275,5 +275,23 @@ fn ranks(rt: HostRuntime) -> Result<(), Fail> {
     funs.add(c(alloc)?)?;
     funs.add(d(alloc)?)?;
     assert_eq!(rt; (funs.rank(0), funs.rank(1), funs.rank(2)), (1, 2, 3));
+    Ok(())
+}
+
+#[test]
+fn functions_are_printed(rt: HostRuntime) -> Result<(), Fail> {
+    let alloc = rt.alloc();
+    let funs = all(alloc)?;
+    let texts = [
+        "fun g(n) = loop i below n, a = 0 in a + i;",
+        "fun h(n) = loop i below n, a = 0 in i;",
+        "fun f(x) = (x / 0) + (9223372036854775807 * 2);",
+        "fun b(x, y) = [x and (2 / y), (not x) or (2 / y)];",
+        "fun c(x) = let m = -x in if m < 0 then g(m + 9) else g(m);",
+    ];
+    for (f, want) in funs.as_slice().iter().zip(texts) {
+        let text = fun_text(alloc, funs.as_slice(), f)?;
+        assert_eq!(rt; text.as_slice(), want.as_bytes());
+    }
     Ok(())
 }

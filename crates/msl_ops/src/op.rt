@@ -6,6 +6,7 @@ use msl_base::Fault;
 /// Which operator. Each has a row in the table.
 #[derive(Clone, Copy, Debug, PartialEq, Eq)]
 pub enum OpKind {
+    /// The sum.
     Sum,
     /// The lesser number.
     Min,

@@ -1,42 +1,286 @@
-//! The scripts of the folder `examples`, with its records and results.
+//! The scripts of the folder `examples`, what `check` makes of them, and for those that are run yet their records and
+//! results.
 
-use crate::fixture::{SQUARE, meet, seq_row};
+use crate::fixture::{Row, checked, done, faults, meet};
 use std::test::Fail;
 
-const APART: &str =
-    "# The square of the distance of two points, given by their coordinates.\nmuesli 1;\nfun sq(x) = x * x;\nfun apart(x1, y1, x2, y2) = sq(x1 - x2) + sq(y1 - y2);\nmain = atomic apart;\n";
+const SQUARE: &str = "# The square of each record, which is one number.
+muesli 1;
+fun sq(x) = x * x;
+main = atomic sq;
+";
 
-const PRIME: &str =
-    "# A number, and whether it is a prime: 1 or 0.\nmuesli 1;\nfun divides(d, n) = n % d == 0;\nfun prime(n) =\n    if n < 2 then 0\n    else loop i below n - 2, so_far = 1 in so_far and not divides(i + 2, n);\nfun told(n) = [n, prime(n)];\nmain = atomic told;\n";
+const APART: &str = "# The square of the distance of two points, given by their coordinates.
+muesli 1;
+fun sq(x) = x * x;
+fun apart(x1, y1, x2, y2) = sq(x1 - x2) + sq(y1 - y2);
+main = atomic apart;
+";
+
+const POWER: &str =
+    "# One function with a loop and a call: x to the power of n, and 1 where n is 0 or less.
+muesli 1;
+fun power(x, n) = loop i below n, a = 1 in a * x;
+fun told(x, n) = [x, n, power(x, n)];
+main = atomic told;
+";
 
 const SPLIT: &str =
-    "# The quotient of two numbers and what is left; the record with a 0 ends the run by a division by zero.\nmuesli 1;\nfun split(a, b) = [a / b, a % b];\nmain = atomic split;\n";
+    "# The quotient of two numbers and what is left; the record with a 0 ends the run by a division by zero.
+muesli 1;
+fun split(a, b) = [a / b, a % b];
+main = atomic split;
+";
+
+const DEVIATIONS: &str =
+    "# A data program: how far each number is from the mean of four, times four. The sum is given to the function.
+muesli 1;
+fun deviation(sum, x) = 4 * x - sum;
+data deviations {
+  numbers = array 2;
+  total = fold sum numbers;
+  result = map deviation(total) numbers;
+  give result;
+}
+main = data deviations on 2;
+";
+
+const PAIRS: &str =
+    "# A filter: two records of one number become one of two. Its state is whether one is held, and which.
+muesli 1;
+fun ready(held, x, y) = held;
+fun both(held, x, y, k) = [x, y];
+fun hold(held, x, y) = [1 - held, y];
+fun rest(held, x) = held;
+fun last_one(held, x, k) = x;
+filter pairs {
+  state 0, 0;
+  count ready;
+  item both;
+  next hold;
+  flush rest;
+  last last_one;
+}
+main = filter pairs;
+";
+
+const FARM: &str = "# A farm: three workers square records, and give their results in any order.
+muesli 1;
+fun sq(x) = x * x;
+main = farm 3 { atomic sq };
+";
+
+const PIPE: &str =
+    "# A pipe of a farm and a data program: sums and products of two numbers, and behind each number the sum up to it.
+muesli 1;
+fun mix(a, b) = [a + b, a * b, a - b];
+data sums {
+  numbers = array 2;
+  result = scan sum numbers;
+  give result;
+}
+main = pipe { farm 2 { atomic mix }; data sums on 1 };
+";
+
+const RANGE: &str =
+    "# Divide and conquer: the sum of the numbers from a to b - 1, by halves of the range.
+muesli 1;
+fun tiny(a, b) = b - a <= 1;
+fun one(a, b) = if b - a == 1 then a else 0;
+fun half(a, b, j) = let middle = (a + b) / 2 in if j == 0 then middle else b;
+fun from(a, b, j) = if j == 0 then a else (a + b) / 2;
+fun part(a, b, j) = [from(a, b, j), half(a, b, j)];
+fun add(x, y) = x + y;
+divcon range {
+  parts 2;
+  cutoff 3;
+  simple tiny;
+  solve one;
+  divide part;
+  combine add;
+}
+main = divcon range on 2;
+";
+
+const PICK: &str =
+    "# Branch and bound: which of four things to take, so that their gain is at least r and their cost the least. A node
+# is how many were looked at, the cost and the gain so far, and r.
+muesli 1;
+fun cost(i) = if i == 0 then 3 else if i == 1 then 5 else if i == 2 then 4 else 7;
+fun gain(i) = if i == 0 then 2 else if i == 1 then 4 else if i == 2 then 3 else 6;
+fun low(i, c, g, r) = c;
+fun enough(i, c, g, r) = g >= r;
+fun children(i, c, g, r) = if i == 4 then 0 else 2;
+fun take(i, c, g, r, k) = [i + 1, c + k * cost(i), g + k * gain(i), r];
+bnb pick {
+  bound low;
+  solved enough;
+  value low;
+  count children;
+  branch take;
+}
+main = bnb pick on 2;
+";
 
 #[test]
 fn examples_are_met(rt: HostRuntime) -> Result<(), Fail> {
     let rows = [
-        seq_row(SQUARE, b"3\n-4\n", b"9\n16\n", b"", 0),
-        seq_row(
-            APART,
-            b"0 0 3 4\n1 -1 1 -1\n-2 5 10 0\n",
-            b"25\n0\n169\n",
-            b"",
-            0,
-        ),
-        seq_row(
-            PRIME,
-            b"1\n2\n9\n97\n91\n-7\n",
-            b"1 0\n2 1\n9 0\n97 1\n91 0\n-7 0\n",
-            b"",
-            0,
-        ),
-        seq_row(
+        done(SQUARE, b"3\n-4\n", b"9\n16\n"),
+        done(APART, b"0 0 3 4\n1 -1 1 -1\n-2 5 10 0\n", b"25\n0\n169\n"),
+        done(POWER, b"2 10\n-3 3\n7 0\n", b"2 10 1024\n-3 3 -27\n7 0 1\n"),
+        faults(
             SPLIT,
             b"7 3\n-7 3\n7 -3\n1 0\n5 5\n",
             b"2 1\n-2 -1\n-2 1\n",
             b"muesli: stage 1: division by zero\n",
-            1,
         ),
     ];
     meet(&rt, rt.alloc(), &rows)
+}
+
+// Each script, and what `check` makes of it.
+const CHECKED: &[(&str, &str)] = &[
+    (
+        SQUARE,
+        "muesli 1;
+fun sq(x) = x * x;
+main = atomic sq;
+# need 2
+",
+    ),
+    (
+        APART,
+        "muesli 1;
+fun sq(x) = x * x;
+fun apart(x1, y1, x2, y2) = sq(x1 - x2) + sq(y1 - y2);
+main = atomic apart;
+# need 2
+",
+    ),
+    (
+        POWER,
+        "muesli 1;
+fun power(x, n) = loop i below n, a = 1 in a * x;
+fun told(x, n) = [x, n, power(x, n)];
+main = atomic told;
+# need 2
+",
+    ),
+    (
+        SPLIT,
+        "muesli 1;
+fun split(a, b) = [a / b, a % b];
+main = atomic split;
+# need 2
+",
+    ),
+    (
+        DEVIATIONS,
+        "muesli 1;
+fun deviation(sum, x) = (4 * x) - sum;
+data deviations {
+  numbers = array 2;
+  total = fold sum numbers;
+  result = map deviation(total) numbers;
+  give result;
+}
+main = data deviations on 2;
+# need 3
+",
+    ),
+    (
+        PAIRS,
+        "muesli 1;
+fun ready(held, x, y) = held;
+fun both(held, x, y, k) = [x, y];
+fun hold(held, x, y) = [1 - held, y];
+fun rest(held, x) = held;
+fun last_one(held, x, k) = x;
+filter pairs {
+  state 0, 0;
+  count ready;
+  item both;
+  next hold;
+  flush rest;
+  last last_one;
+}
+main = filter pairs;
+# need 2
+",
+    ),
+    (
+        FARM,
+        "muesli 1;
+fun sq(x) = x * x;
+main = farm 3 { atomic sq };
+# need 4
+",
+    ),
+    (
+        PIPE,
+        "muesli 1;
+fun mix(a, b) = [a + b, a * b, a - b];
+data sums {
+  numbers = array 2;
+  result = scan sum numbers;
+  give result;
+}
+main = pipe { farm 2 { atomic mix }; data sums on 1 };
+# need 4
+",
+    ),
+    (
+        RANGE,
+        "muesli 1;
+fun tiny(a, b) = (b - a) <= 1;
+fun one(a, b) = if (b - a) == 1 then a else 0;
+fun half(a, b, j) = let middle = (a + b) / 2 in if j == 0 then middle else b;
+fun from(a, b, j) = if j == 0 then a else (a + b) / 2;
+fun part(a, b, j) = [from(a, b, j), half(a, b, j)];
+fun add(x, y) = x + y;
+divcon range {
+  parts 2;
+  cutoff 3;
+  simple tiny;
+  solve one;
+  divide part;
+  combine add;
+}
+main = divcon range on 2;
+# need 3
+",
+    ),
+    (
+        PICK,
+        "muesli 1;
+fun cost(i) = if i == 0 then 3 else if i == 1 then 5 else if i == 2 then 4 else 7;
+fun gain(i) = if i == 0 then 2 else if i == 1 then 4 else if i == 2 then 3 else 6;
+fun low(i, c, g, r) = c;
+fun enough(i, c, g, r) = g >= r;
+fun children(i, c, g, r) = if i == 4 then 0 else 2;
+fun take(i, c, g, r, k) = [i + 1, c + (k * cost(i)), g + (k * gain(i)), r];
+bnb pick {
+  bound low;
+  solved enough;
+  value low;
+  count children;
+  branch take;
+}
+main = bnb pick on 2;
+# need 3
+",
+    ),
+];
+
+#[test]
+fn examples_are_checked(rt: HostRuntime) -> Result<(), Fail> {
+    for (script, text) in CHECKED {
+        // What comes of a canonical text is the text itself, since the line with the need is a comment.
+        let rows = [
+            checked(script, text.as_bytes()),
+            checked(text, text.as_bytes()),
+        ];
+        meet(&rt, rt.alloc(), &rows)?;
+    }
+    Ok(())
 }

@@ -1,6 +1,6 @@
 //! Sources, sinks and libraries that fail at one of their calls.
 
-use crate::fixture::{Outside, SEQ, SQUARE, WORKING, run};
+use crate::fixture::{CHECK, Outside, SEQ, SQUARE, WORKING, run};
 use std::test::Fail;
 
 #[test]
@@ -40,6 +40,28 @@ fn a_failing_call_ends_the_run(rt: HostRuntime) -> Result<(), Fail> {
     let left = run(rt.alloc(), SEQ, "muesli 1;\n", b"3\n", &no_message)?;
     assert_eq!(rt; left.status.code(), 2);
     assert_eq!(rt; left.err.held(), b"".as_slice());
+    Ok(())
+}
+
+#[test]
+fn a_failing_call_ends_the_check(rt: HostRuntime) -> Result<(), Fail> {
+    let second_write = Outside {
+        write_piece: 3,
+        writes: &[2],
+        ..WORKING
+    };
+    let left = run(rt.alloc(), CHECK, SQUARE, b"3\n", &second_write)?;
+    assert_eq!(rt; left.status.code(), 3);
+    assert_eq!(rt; left.out.held(), b"mue".as_slice());
+    assert_eq!(rt; left.err.held(), b"muesli: write fault\n".as_slice());
+
+    let first_fetch = Outside {
+        fetches: &[1],
+        ..WORKING
+    };
+    let left = run(rt.alloc(), CHECK, SQUARE, b"3\n", &first_fetch)?;
+    assert_eq!(rt; left.status.code(), 3);
+    assert_eq!(rt; left.err.held(), b"muesli: cannot read script\n".as_slice());
     Ok(())
 }
 

@@ -1,9 +1,9 @@
 //! Runs the top call over memory.
 
 use msl_base::{Name, NoMemory};
-use msl_io::{Bytes, Calls, File, FileList, MemLibrary, MemSink, MemSource};
+use msl_io::{Bytes, Calls, File, FileList, MemLibrary, MemSink, MemSource, Source};
 use msl_run::{Status, Words, muesli_plain};
-use std::alloc::Global;
+use std::alloc::{AllocError, Global};
 use std::process::Abort;
 use std::test::Fail;
 
@@ -11,7 +11,7 @@ pub const SQUARE: &str = "muesli 1;\nfun sq(x) = x * x;\nmain = atomic sq;\n";
 
 pub const SEQ: &[&str] = &["seq", "script"];
 
-pub const UNBUILT: &[u8] = b"muesli: not built yet\n";
+pub const CHECK: &[&str] = &["check", "script"];
 
 /// Which calls of which object fail, from 1, and how much one read gives and one write takes.
 #[derive(Clone, Copy)]
@@ -38,6 +38,7 @@ pub const WORKING: Outside<'static> = Outside {
 #[derive(Drop)]
 pub struct Left {
     pub status: Status,
+    pub src: MemSource,
     pub out: MemSink,
     pub err: MemSink,
 }
@@ -86,56 +87,139 @@ pub fn run(
     let mut out = MemSink::new(alloc, 65536, write_piece, writes)?;
     let mut err = MemSink::new(alloc, 65536, 4096, messages)?;
     let status = muesli_plain(alloc, &words, &mut lib, &mut src, &mut out, &mut err);
-    Ok(Left { status, out, err })
+    Ok(Left {
+        status,
+        src,
+        out,
+        err,
+    })
 }
 
-/// The words, the script, the input; what is written, the message and the status.
+/// What a row tells.
+#[derive(Clone, Copy)]
+pub enum Told<'a> {
+    /// This message.
+    Text(&'a [u8]),
+    /// That the script is refused, by this kind at the token behind the `^`, which isn't part of the script.
+    Refusal(&'a str),
+}
+
+/// The words, the script, the input; what is written, what is told and the status.
 #[derive(Drop)]
-pub struct Row {
+pub struct Row<'a> {
     pub words: &'static [&'static str],
-    pub script: &'static str,
-    pub input: &'static [u8],
-    pub out: &'static [u8],
-    pub err: &'static [u8],
+    pub script: &'a str,
+    pub input: &'a [u8],
+    pub out: &'a [u8],
+    pub told: Told<'a>,
     pub code: u8,
 }
 
-impl Row {
-    fn run(&self, alloc: Global) -> Result<Left, NoMemory> {
-        run(alloc, self.words, self.script, self.input, &WORKING)
+impl Row<'_> {
+    // The text of the script and the message.
+    fn texts(&self, alloc: Global) -> Result<(String, Vec<u8>), AllocError> {
+        match self.told {
+            Told::Text(message) => {
+                let script = String::from_str(alloc, self.script)?;
+                Ok((script, Vec::from_slice(alloc, message)?))
+            }
+            Told::Refusal(kind) => {
+                let (before, behind) = self.script.split_once('^').unwrap_or((self.script, ""));
+                let script = format!(in alloc; "{before}{behind}")?;
+                let place = before.len();
+                let message = format!(in alloc; "muesli: script: {kind} at {place}\n")?;
+                Ok((script, message.into_bytes()))
+            }
+        }
     }
 }
 
 /// A row of `seq` over the script.
-pub fn seq_row(
-    script: &'static str,
-    input: &'static [u8],
-    out: &'static [u8],
-    err: &'static [u8],
+pub fn seq_row<'a>(
+    script: &'a str,
+    input: &'a [u8],
+    out: &'a [u8],
+    message: &'a [u8],
     code: u8,
-) -> Row {
+) -> Row<'a> {
     Row {
         words: SEQ,
         script,
         input,
         out,
-        err,
+        told: Told::Text(message),
         code,
     }
 }
 
-/// A row of `seq` over a script that is none of those that are built.
-pub fn unbuilt(script: &'static str) -> Row {
-    seq_row(script, b"3\n", b"", UNBUILT, 2)
+/// A row of `seq` over records that are all good.
+pub fn done<'a>(script: &'a str, input: &'a [u8], out: &'a [u8]) -> Row<'a> {
+    seq_row(script, input, out, b"", 0)
 }
 
-/// Runs each row and compares what it leaves behind.
-pub fn meet(rt: &impl Abort, alloc: Global, rows: &[Row]) -> Result<(), Fail> {
+/// A row of `seq` that a fault of the stream ends behind these results.
+pub fn faults<'a>(script: &'a str, input: &'a [u8], out: &'a [u8], message: &'a [u8]) -> Row<'a> {
+    seq_row(script, input, out, message, 1)
+}
+
+/// A row of `seq` over a script of which nothing is run.
+pub fn not_run<'a>(script: &'a str, message: &'a [u8]) -> Row<'a> {
+    seq_row(script, b"3\n", b"", message, 2)
+}
+
+/// A row of `seq` over a script that is of no form that is built.
+pub fn unbuilt(script: &str) -> Row<'_> {
+    not_run(script, b"muesli: not built yet\n")
+}
+
+/// A row of `seq` over a script that is refused, by this kind at the token behind the `^`.
+pub fn refused<'a>(script: &'a str, kind: &'a str) -> Row<'a> {
+    Row {
+        told: Told::Refusal(kind),
+        ..not_run(script, b"")
+    }
+}
+
+/// A row of `check` that writes this of a script.
+pub fn checked<'a>(script: &'a str, out: &'a [u8]) -> Row<'a> {
+    Row {
+        words: CHECK,
+        ..seq_row(script, b"3\n", out, b"", 0)
+    }
+}
+
+/// Runs each row and compares what it leaves behind. Where nothing is run, nothing was read either.
+pub fn meet(rt: &impl Abort, alloc: Global, rows: &[Row<'_>]) -> Result<(), Fail> {
     for row in rows {
-        let left = row.run(alloc)?;
+        let (script, message) = row.texts(alloc)?;
+        let mut left = run(alloc, row.words, script.as_str(), row.input, &WORKING)?;
+        assert_eq!(rt;
+            left.err.held(),
+            message.as_slice(),
+            "message of {}",
+            row.script
+        );
         assert_eq!(rt; left.status.code(), row.code, "status of {}", row.script);
         assert_eq!(rt; left.out.held(), row.out, "output of {}", row.script);
-        assert_eq!(rt; left.err.held(), row.err, "message of {}", row.script);
+        if row.code >= 2 || row.words == CHECK {
+            let mut rest = [0; 16];
+            let n = left.src.read(&mut rest)?;
+            assert_eq!(rt; &rest[..n], row.input, "unread of {}", row.script);
+        }
+    }
+    Ok(())
+}
+
+/// Runs each text behind these definitions as a script that is refused, by the kind beside it.
+pub fn refuse(
+    rt: &impl Abort,
+    alloc: Global,
+    known: &str,
+    rows: &[(&str, &str)],
+) -> Result<(), Fail> {
+    for (text, kind) in rows {
+        let script = format!(in alloc; "{known}{text}")?;
+        meet(rt, alloc, &[refused(script.as_str(), kind)])?;
     }
     Ok(())
 }

@@ -1,24 +1,7 @@
 //! Scripts of functions: what is one, and what comes of it.
 
-use crate::fixture::{Row, SEQ, UNBUILT, WORKING, meet, run, seq_row, unbuilt};
-use msl_base::NoMemory;
-use std::alloc::Global;
+use crate::fixture::{done, faults, meet, refused, unbuilt};
 use std::test::Fail;
-
-// A row of a script over records that are all good.
-fn done(script: &'static str, input: &'static [u8], out: &'static [u8]) -> Row {
-    seq_row(script, input, out, b"", 0)
-}
-
-// A row of a script whose stage faults behind these results.
-fn faults(
-    script: &'static str,
-    input: &'static [u8],
-    out: &'static [u8],
-    err: &'static [u8],
-) -> Row {
-    seq_row(script, input, out, err, 1)
-}
 
 #[test]
 fn texts_of_scripts(rt: HostRuntime) -> Result<(), Fail> {
@@ -46,26 +29,51 @@ fn texts_of_scripts(rt: HostRuntime) -> Result<(), Fail> {
             b"1\n-1\n0\n",
         ),
         done("muesli 01;fun f(x)=x;main=atomic f;", b"3\n", b"3\n"),
-        unbuilt("muesli 2;\nfun f(x) = x;\nmain = atomic f;\n"),
-        unbuilt("muesli 0;\nfun f(x) = x;\nmain = atomic f;\n"),
-        unbuilt("muesli 1\nfun f(x) = x;\nmain = atomic f;\n"),
-        unbuilt("muesli;\nfun f(x) = x;\nmain = atomic f;\n"),
-        unbuilt("fun f(x) = x;\nmain = atomic f;\n"),
-        unbuilt(""),
-        unbuilt("muesli 1;\nmain = atomic f;\n"),
-        unbuilt("muesli 1;\nfun f(x) = x;\n"),
-        unbuilt("muesli 1;\nfun f(x) = x;\nmain = atomic f\n"),
-        unbuilt("muesli 1;\nfun f(x) = x;\nmain = f;\n"),
+        refused("muesli ^2;\nfun f(x) = x;\nmain = atomic f;\n", "version"),
+        refused("muesli ^0;\nfun f(x) = x;\nmain = atomic f;\n", "version"),
+        refused("muesli 1\n^fun f(x) = x;\nmain = atomic f;\n", "expected"),
+        refused("muesli^;\nfun f(x) = x;\nmain = atomic f;\n", "expected"),
+        refused("^fun f(x) = x;\nmain = atomic f;\n", "expected"),
+        refused("^", "expected"),
+        refused("muesli 1;\nmain = atomic ^f;\n", "unknown"),
+        refused("muesli 1;\n^", "expected"),
+        refused("muesli 1;\nfun f(x) = x;\n^", "expected"),
+        refused("muesli 1;\nfun f(x) = x;\nmain = atomic f\n^", "expected"),
+        refused("muesli 1;\nfun f(x) = x;\nmain = ^f;\n", "expected"),
         unbuilt("muesli 1;\nfun f(x) = x;\nmain = farm 2 { atomic f };\n"),
-        unbuilt("muesli 1;\nfun f(x) = x;\ndata d { a = array 1; give a; }\nmain = atomic f;\n"),
+        done(
+            "muesli 1;\nfun f(x) = x;\ndata d { a = array 1; give a; }\nmain = atomic f;\n",
+            b"3\n",
+            b"3\n",
+        ),
         unbuilt("muesli 1;\ndata d { a = array 1; give a; }\nmain = data d on 1;\n"),
         // Text behind the end.
-        unbuilt("muesli 1;\nfun f(x) = x;\nmain = atomic f;\n;"),
-        unbuilt("muesli 1;\nfun f(x) = x;\nmain = atomic f;\nfun g(x) = x;\n"),
-        unbuilt("muesli 1;\nfun f(x) = x;\nmain = atomic f;\nmain = atomic f;\n"),
+        refused("muesli 1;\nfun f(x) = x;\nmain = atomic f;\n^;", "expected"),
+        refused(
+            "muesli 1;\nfun f(x) = x;\nmain = atomic f;\n^fun g(x) = x;\n",
+            "expected",
+        ),
+        refused(
+            "muesli 1;\nfun f(x) = x;\nmain = atomic f;\n^main = atomic f;\n",
+            "expected",
+        ),
+        // A word of the grammar isn't a name; that of an operator is.
+        refused(
+            "muesli 1;\nfun ^map(x) = x;\nmain = atomic map;\n",
+            "expected",
+        ),
+        done(
+            "muesli 1;\nfun gcd(sum, xor) = sum + xor;\nmain = atomic gcd;\n",
+            b"3 4\n",
+            b"7\n",
+        ),
+        refused("muesli 1;\nfun f(x) = x;\nmain = atomic ^g;\n", "unknown"),
         // What is no text of tokens.
-        unbuilt("muesli 1;\nfun f(x) = x!;\nmain = atomic f;\n"),
-        unbuilt("muesli 1;\nfun f(x) = 9223372036854775808;\nmain = atomic f;\n"),
+        refused("muesli 1;\nfun f(x) = x^!;\nmain = atomic f;\n", "byte"),
+        refused(
+            "muesli 1;\nfun f(x) = ^9223372036854775808;\nmain = atomic f;\n",
+            "number",
+        ),
         done(
             "muesli 1;\nfun f(x) = 9223372036854775807;\nmain = atomic f;\n",
             b"3\n",
@@ -79,32 +87,63 @@ fn texts_of_scripts(rt: HostRuntime) -> Result<(), Fail> {
 fn functions_and_names(rt: HostRuntime) -> Result<(), Fail> {
     let rows = [
         // A function calls those before it alone.
-        unbuilt("muesli 1;\nfun f(x) = g(x);\nmain = atomic f;\n"),
-        unbuilt("muesli 1;\nfun f(x) = g(x);\nfun g(x) = x;\nmain = atomic f;\n"),
-        unbuilt("muesli 1;\nfun f(x) = f(x);\nmain = atomic f;\n"),
-        unbuilt("muesli 1;\nfun f(x) = x;\nfun f(x) = x;\nmain = atomic f;\n"),
+        refused(
+            "muesli 1;\nfun f(x) = ^g(x);\nmain = atomic f;\n",
+            "unknown",
+        ),
+        refused(
+            "muesli 1;\nfun f(x) = ^g(x);\nfun g(x) = x;\nmain = atomic f;\n",
+            "unknown",
+        ),
+        refused(
+            "muesli 1;\nfun f(x) = ^f(x);\nmain = atomic f;\n",
+            "unknown",
+        ),
+        refused(
+            "muesli 1;\nfun f(x) = x;\nfun ^f(x) = x;\nmain = atomic f;\n",
+            "twice",
+        ),
         // A called function has one result, and as many arguments as parameters.
-        unbuilt("muesli 1;\nfun g(x) = [x, x];\nfun f(x) = g(x);\nmain = atomic f;\n"),
-        unbuilt("muesli 1;\nfun g(x) = x;\nfun f(x) = g(x, x);\nmain = atomic f;\n"),
+        refused(
+            "muesli 1;\nfun g(x) = [x, x];\nfun f(x) = ^g(x);\nmain = atomic f;\n",
+            "width",
+        ),
+        refused(
+            "muesli 1;\nfun g(x) = x;\nfun f(x) = ^g(x, x);\nmain = atomic f;\n",
+            "width",
+        ),
         // Functions and variables have names of their own, and a name without `(` is a variable.
         done(
             "muesli 1;\nfun f(f) = f + 1;\nfun g(f) = f(f) + f;\nmain = atomic g;\n",
             b"4\n",
             b"9\n",
         ),
-        unbuilt("muesli 1;\nfun g(x) = x;\nfun f(x) = g;\nmain = atomic f;\n"),
+        refused(
+            "muesli 1;\nfun g(x) = x;\nfun f(x) = ^g;\nmain = atomic f;\n",
+            "unknown",
+        ),
+        refused("muesli 1;\nfun f(x) = ^y;\nmain = atomic f;\n", "unknown"),
         // A name of `let` counts from its `in` on, and no name stands for two variables at once.
         done(
             "muesli 1;\nfun f(x) = let y = let y = x in y + 1 in y * 2;\nmain = atomic f;\n",
             b"3\n",
             b"8\n",
         ),
-        unbuilt("muesli 1;\nfun f(x) = let y = y in y;\nmain = atomic f;\n"),
-        unbuilt("muesli 1;\nfun f(x) = let x = 1 in x;\nmain = atomic f;\n"),
-        unbuilt("muesli 1;\nfun f(x, x) = x;\nmain = atomic f;\n"),
-        unbuilt("muesli 1;\nfun f(x) = loop i below x, i = 0 in i;\nmain = atomic f;\n"),
-        unbuilt("muesli 1;\nfun f() = 1;\nmain = atomic f;\n"),
-        unbuilt("muesli 1;\nfun f(x) = [];\nmain = atomic f;\n"),
+        refused(
+            "muesli 1;\nfun f(x) = let y = ^y in y;\nmain = atomic f;\n",
+            "unknown",
+        ),
+        refused(
+            "muesli 1;\nfun f(x) = let ^x = 1 in x;\nmain = atomic f;\n",
+            "twice",
+        ),
+        refused("muesli 1;\nfun f(x, ^x) = x;\nmain = atomic f;\n", "twice"),
+        refused(
+            "muesli 1;\nfun f(x) = loop i below x, ^i = 0 in i;\nmain = atomic f;\n",
+            "twice",
+        ),
+        refused("muesli 1;\nfun f(^) = 1;\nmain = atomic f;\n", "expected"),
+        refused("muesli 1;\nfun f(x) = [^];\nmain = atomic f;\n", "expected"),
     ];
     meet(&rt, rt.alloc(), &rows)
 }
@@ -136,14 +175,20 @@ fn expressions(rt: HostRuntime) -> Result<(), Fail> {
             b"3\n0\n",
             b"1 0 0 1 0 1 0 1 1\n0 1 1 1 0 0 1 0 0\n",
         ),
-        unbuilt("muesli 1;\nfun f(x) = 1 < x < 3;\nmain = atomic f;\n"),
+        refused(
+            "muesli 1;\nfun f(x) = 1 < x ^< 3;\nmain = atomic f;\n",
+            "expected",
+        ),
         // `if`, `let` and `loop` need parentheses as an operand.
         done(
             "muesli 1;\nfun f(x) = [1 + (if x then 2 else 3), -x / 2, -x % 2];\nmain = atomic f;\n",
             b"7\n0\n",
             b"3 -3 -1\n4 0 0\n",
         ),
-        unbuilt("muesli 1;\nfun f(x) = 1 + if x then 2 else 3;\nmain = atomic f;\n"),
+        refused(
+            "muesli 1;\nfun f(x) = 1 + ^if x then 2 else 3;\nmain = atomic f;\n",
+            "expected",
+        ),
         done(
             "muesli 1;\nfun clamp(low, high, x) = min(max(x, low), high);\nmain = atomic clamp;\n",
             b"0 10 -5\n0 10 7\n0 10 15\n",
@@ -193,101 +238,4 @@ fn expressions(rt: HostRuntime) -> Result<(), Fail> {
         ),
     ];
     meet(&rt, rt.alloc(), &rows)
-}
-
-#[test]
-fn limits(rt: HostRuntime) -> Result<(), Fail> {
-    let rows = [
-        // 16 parameters and results.
-        done(
-            "muesli 1; fun f(a, b, c, d, e, f, g, h, i, j, k, l, m, n, o, p) = p; main = atomic f;",
-            b"1 2 3 4 5 6 7 8 9 10 11 12 13 14 15 16\n",
-            b"16\n",
-        ),
-        unbuilt(
-            "muesli 1; fun f(a, b, c, d, e, f, g, h, i, j, k, l, m, n, o, p, q) = p; main = atomic f;",
-        ),
-        done(
-            "muesli 1; fun f(x) = [1, 2, 3, 4, 5, 6, 7, 8, 9, 10, 11, 12, 13, 14, 15, x]; main = atomic f;",
-            b"16\n",
-            b"1 2 3 4 5 6 7 8 9 10 11 12 13 14 15 16\n",
-        ),
-        unbuilt(
-            "muesli 1; fun f(x) = [1, 2, 3, 4, 5, 6, 7, 8, 9, 10, 11, 12, 13, 14, 15, 16, x]; main = atomic f;",
-        ),
-        // A chain of 8 calls of one function by the next.
-        done(
-            "muesli 1; fun a(x) = x + 1; fun b(x) = a(x); fun c(x) = b(x); fun d(x) = c(x); fun e(x) = d(x); fun f(x) = e(x); fun g(x) = f(x); fun h(x) = g(x); main = atomic h;",
-            b"3\n",
-            b"4\n",
-        ),
-        unbuilt(
-            "muesli 1; fun a(x) = x + 1; fun b(x) = a(x); fun c(x) = b(x); fun d(x) = c(x); fun e(x) = d(x); fun f(x) = e(x); fun g(x) = f(x); fun h(x) = g(x); fun i(x) = h(x); main = atomic i;",
-        ),
-        // A loop where 30 variables are in scope, and a name and a loop where 31 are.
-        done(
-            "muesli 1; fun f(p) = let a = 0 in let b = 0 in let c = 0 in let d = 0 in let e = 0 in let f = 0 in let g = 0 in let h = 0 in let i = 0 in let j = 0 in let k = 0 in let l = 0 in let m = 0 in let n = 0 in let o = 0 in let q = 0 in let r = 0 in let s = 0 in let t = 0 in let u = 0 in let v = 0 in let w = 0 in let x = 0 in let y = 0 in let z = 0 in let aa = 0 in let ab = 0 in let ac = 0 in let ad = 0 in loop i0 below 3, i1 = p in i1 + i0; main = atomic f;",
-            b"3\n",
-            b"6\n",
-        ),
-        done(
-            "muesli 1; fun f(p) = let a = 0 in let b = 0 in let c = 0 in let d = 0 in let e = 0 in let f = 0 in let g = 0 in let h = 0 in let i = 0 in let j = 0 in let k = 0 in let l = 0 in let m = 0 in let n = 0 in let o = 0 in let q = 0 in let r = 0 in let s = 0 in let t = 0 in let u = 0 in let v = 0 in let w = 0 in let x = 0 in let y = 0 in let z = 0 in let aa = 0 in let ab = 0 in let ac = 0 in let ad = 0 in let ae = 0 in let i0 = p in i0 + 1; main = atomic f;",
-            b"3\n",
-            b"4\n",
-        ),
-        unbuilt(
-            "muesli 1; fun f(p) = let a = 0 in let b = 0 in let c = 0 in let d = 0 in let e = 0 in let f = 0 in let g = 0 in let h = 0 in let i = 0 in let j = 0 in let k = 0 in let l = 0 in let m = 0 in let n = 0 in let o = 0 in let q = 0 in let r = 0 in let s = 0 in let t = 0 in let u = 0 in let v = 0 in let w = 0 in let x = 0 in let y = 0 in let z = 0 in let aa = 0 in let ab = 0 in let ac = 0 in let ad = 0 in let ae = 0 in loop i0 below 3, i1 = p in i1 + i0; main = atomic f;",
-        ),
-    ];
-    meet(&rt, rt.alloc(), &rows)
-}
-
-// The status of a script in which pieces are repeated in front of an `x` and behind it.
-fn code_of(
-    alloc: Global,
-    front: &'static str,
-    behind: &'static str,
-    times: usize,
-) -> Result<u8, NoMemory> {
-    let mut text = String::from_str(alloc, "muesli 1; fun f(x) = ")?;
-    for _ in 0..times {
-        text.push_str(front)?;
-    }
-    text.push_str("x")?;
-    for _ in 0..times {
-        text.push_str(behind)?;
-    }
-    text.push_str("; main = atomic f;")?;
-    let left = run(alloc, SEQ, text.as_str(), b"3\n", &WORKING)?;
-    Ok(left.status.code())
-}
-
-// A chain of `-` is one deeper than it has signs, and parentheses open two expressions each.
-#[test]
-fn deep_expressions(rt: HostRuntime) -> Result<(), Fail> {
-    let alloc = rt.alloc();
-    assert_eq!(rt; code_of(alloc, "-", "", 99)?, 0);
-    assert_eq!(rt; code_of(alloc, "-", "", 100)?, 2);
-    assert_eq!(rt; code_of(alloc, "(", ")", 127)?, 0);
-    assert_eq!(rt; code_of(alloc, "(", ")", 128)?, 2);
-    Ok(())
-}
-
-// A script has at most 1,048,576 bytes, comments included.
-#[test]
-fn a_long_script(rt: HostRuntime) -> Result<(), Fail> {
-    let alloc = rt.alloc();
-    let mut text = String::from_str(alloc, "muesli 1; fun f(x) = x + 1; main = atomic f; #")?;
-    for _ in text.len()..1_048_576 {
-        text.push_str("x")?;
-    }
-    let left = run(alloc, SEQ, text.as_str(), b"3\n", &WORKING)?;
-    assert_eq!(rt; left.status.code(), 0);
-    assert_eq!(rt; left.out.held(), b"4\n".as_slice());
-    text.push_str("x")?;
-    let left = run(alloc, SEQ, text.as_str(), b"3\n", &WORKING)?;
-    assert_eq!(rt; left.status.code(), 2);
-    assert_eq!(rt; left.out.held(), b"".as_slice());
-    assert_eq!(rt; left.err.held(), UNBUILT);
-    Ok(())
 }

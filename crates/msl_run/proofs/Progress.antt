@@ -16,7 +16,7 @@ use Rattle.msl_io.proofs.Told.{Part}
 use Rattle.msl_run.specs.Headline.{Ran}
 use Rattle.msl_run.specs.Steps.{next_of, Ends, AreLines, GoesOn, IsOver, StandsAt}
 use Rattle.msl_run.specs.declared.status.Status.{Status}
-use Rattle.msl_run.specs.declared.status.Status.TheVariants.{Done, Usage, Library, Unbuilt, Stream as Faulted, Read, Write, Memory}
+use Rattle.msl_run.specs.declared.status.Status.TheVariants.{Done, Usage, Library, ScriptLong, Script, Unbuilt, Stream as Faulted, Read, Write, Memory}
 
 pub text-append : (a b : List Record) → text (a ++ b) ≡ text a ++ text b
 text-append [] b = refl
@@ -209,6 +209,8 @@ module _ (one : Record → Outcome) where
   goes_ends input bytes left held now now' n Memory g e same = goes_memory input bytes left held now now' n g same
   goes_ends input bytes left held now now' n Usage g e same = absurd e
   goes_ends input bytes left held now now' n Library g e same = absurd e
+  goes_ends input bytes left held now now' n ScriptLong g e same = absurd e
+  goes_ends input bytes left held now now' n (Script kind at) g e same = absurd e
   goes_ends input bytes left held now now' n Unbuilt g e same = absurd e
   goes_ends input bytes left held now now' n Write g e same = absurd e
 

@@ -2,7 +2,7 @@
 use Rattle.std.specs.Prelude.{ℕ, ◌≡◌, ◌≤◌, List, Option, ⊤}
 use Rattle.msl_io.specs.Causes.{Rose}
 use Rattle.msl_run.specs.declared.status.Status.{Status}
-use Rattle.msl_run.specs.declared.status.Status.TheVariants.{Done, Usage, Library, Unbuilt, Stream, Read, Write, Memory}
+use Rattle.msl_run.specs.declared.status.Status.TheVariants.{Done, Usage, Library, ScriptLong, Script, Unbuilt, Stream, Read, Write, Memory}
 
 -- a count before and afterwards
 pub record Count : Type 0 where
@@ -29,6 +29,8 @@ pub record StreamCause (status : Status) (source sink : Count) : Type 0 where
 abbrev pub IsEnding : Status → Type 0
 IsEnding Usage = ⊥
 IsEnding Library = ⊥
+IsEnding ScriptLong = ⊥
+IsEnding (Script kind at) = ⊥
 IsEnding Unbuilt = ⊥
 IsEnding _ = ⊤
 
@@ -44,6 +46,8 @@ abbrev pub code_of : Status → ℕ
 code_of Done = 0
 code_of (Stream f) = 1
 code_of Usage = 2
+code_of ScriptLong = 2
+code_of (Script kind at) = 2
 code_of Unbuilt = 2
 code_of Library = 3
 code_of Read = 3

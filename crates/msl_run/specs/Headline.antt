@@ -8,7 +8,7 @@ use Rattle.msl_io.specs.Lines.{reads, part}
 use Rattle.msl_io.specs.Text.{text}
 use Rattle.msl_io.specs.Known.{Told}
 use Rattle.msl_run.specs.declared.status.Status.{Status}
-use Rattle.msl_run.specs.declared.status.Status.TheVariants.{Done, Usage, Library, Unbuilt, Stream as Faulted, Read, Write, Memory}
+use Rattle.msl_run.specs.declared.status.Status.TheVariants.{Done, Usage, Library, ScriptLong, Script, Unbuilt, Stream as Faulted, Read, Write, Memory}
 
 abbrev pub Ran : (Stream → Stream → Type 0) → List ℕ → List ℕ → List ℕ → Status → Type 0
 -- the text of a whole stream that the script gives for all records was written, and nothing is left
@@ -29,6 +29,8 @@ Ran means input left written Memory =
 -- no run began
 Ran means input left written Usage = ⊥
 Ran means input left written Library = ⊥
+Ran means input left written ScriptLong = ⊥
+Ran means input left written (Script kind at) = ⊥
 Ran means input left written Unbuilt = ⊥
 
 -- the same, where the source and the sink tell their bytes

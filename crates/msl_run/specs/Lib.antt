@@ -1,10 +1,5 @@
 pub mod Causes
-pub mod FunScript
 pub mod Headline
 pub mod Messages
-pub mod Places
-pub mod Rows
-pub mod ScriptReading
-pub mod Stages
 pub mod Steps
 pub mod TopCall

@@ -6,8 +6,10 @@ use Rattle.msl_base.specs.declared.fault.Fault.{Fault}
 use Rattle.msl_base.specs.declared.fault.Fault.TheVariants.{BadRecord, LongLine, WideRecord, ManyLines, Shape, Overflow, DivZero, Steps, Count, NotPermutation, Ragged, Depth, BoundBroken, Value}
 use Rattle.msl_io.specs.Causes.{Rose}
 use Rattle.msl_io.specs.Text.{AppendsPart}
+use Rattle.msl_lex.specs.declared.kind.Kind.{Kind}
+use Rattle.msl_lex.specs.declared.kind.Kind.TheVariants as kinds
 use Rattle.msl_run.specs.declared.status.Status.{Status}
-use Rattle.msl_run.specs.declared.status.Status.TheVariants.{Done, Usage, Library, Unbuilt, Stream, Read, Write, Memory}
+use Rattle.msl_run.specs.declared.status.Status.TheVariants.{Done, Usage, Library, ScriptLong, Script, Unbuilt, Stream, Read, Write, Memory}
 
 -- what is wrong at a line, or at a stage
 abbrev pub at_line : ℕ → List ℕ → List ℕ
@@ -42,6 +44,22 @@ fault_text (Depth k path) = at_stage k (codes "too deep at " ++ path_text path)
 fault_text (BoundBroken k path) = at_stage k (codes "bound broken at " ++ path_text path)
 fault_text (Value k path) = at_stage k (codes "no such value at " ++ path_text path)
 
+-- why a script is refused
+abbrev pub kind_text : Kind → List ℕ
+kind_text kinds.Expected = codes "expected"
+kind_text kinds.Version = codes "version"
+kind_text kinds.InFarm = codes "filter in farm"
+kind_text kinds.Many = codes "many"
+kind_text kinds.Deep = codes "deep"
+kind_text kinds.Twice = codes "twice"
+kind_text kinds.Unknown = codes "unknown"
+kind_text kinds.WrongKind = codes "wrong kind"
+kind_text kinds.Width = codes "width"
+kind_text kinds.Range = codes "range"
+kind_text kinds.Byte = codes "byte"
+kind_text kinds.LongName = codes "long name"
+kind_text kinds.Number = codes "number"
+
 abbrev pub line_of : List ℕ → List ℕ
 line_of what = codes "muesli: " ++ (what ++ 10 ∷ [])
 
@@ -50,6 +68,8 @@ abbrev pub message_of : Status → List ℕ
 message_of Done = []
 message_of Usage = line_of (codes "usage: muesli seq FILE, rounds FILE, run FILE, check FILE or demo N, with -p N and for run -t T")
 message_of Library = line_of (codes "cannot read script")
+message_of ScriptLong = line_of (codes "script too long")
+message_of (Script kind at) = line_of (codes "script: " ++ (kind_text kind ++ (codes " at " ++ decimal at)))
 message_of Unbuilt = line_of (codes "not built yet")
 message_of (Stream f) = line_of (fault_text f)
 message_of Read = line_of (codes "read fault")

@@ -1,11 +1,8 @@
 //! The commands of the program, and what each of them leaves behind.
 #![tactic(auto)]
 
-pub mod laws;
 mod message;
 mod run;
-mod script;
-mod script_reader;
 mod sequence;
 mod status;
 mod words;

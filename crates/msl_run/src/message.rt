@@ -1,10 +1,11 @@
 ghost use Rattle.std.specs.Prelude.{◌≡◌, ◌++◌, ◌∷◌, ◌≤◌, ◌+◌, [], length, codes, decimal};
 ghost use Rattle.msl_base.specs.Paths.{AreSteps};
-ghost use Rattle.msl_run.specs.Messages.{Tells, message_of, fault_text, line_of, at_line, at_stage, path_text, dotted};
+ghost use Rattle.msl_run.specs.Messages.{Tells, message_of, kind_text, fault_text, line_of, at_line, at_stage, path_text, dotted};
 
 use crate::status::Status;
 use msl_base::{Fault, Path};
 use msl_io::{Piece, Sink, write_text};
+use msl_lex::Kind;
 
 /// Writes the message of a status, one line, and nothing after `Done`. A fault of the sink changes nothing else.
 pub fn tell<E: Sink>(err: &mut E, status: &Status)
@@ -25,11 +26,47 @@ fn message(status: &Status) -> Piece
             b"usage: muesli seq FILE, rounds FILE, run FILE, check FILE or demo N, with -p N and for run -t T",
         ),
         Status::Library => line(b"cannot read script"),
+        Status::ScriptLong => line(b"script too long"),
+        Status::Script(kind, at) => script_message(*kind, *at),
         Status::Unbuilt => line(b"not built yet"),
         Status::Stream(fault) => fault_message(*fault),
         Status::Read => line(b"read fault"),
         Status::Write => line(b"write fault"),
         Status::Memory => line(b"out of memory"),
+    }
+}
+
+fn script_message(kind: Kind, at: u32) -> Piece
+    ensures { result ≡ message_of (Status.Script kind at) }
+{
+    let mut piece = Piece::new();
+    piece.push_bytes(b"muesli: script: ");
+    piece.push_bytes(kind_text(kind));
+    piece.push_bytes(b" at ");
+    piece.push_decimal(u64::from(at));
+    piece.push(b'\n');
+    piece
+}
+
+// Why a script is refused.
+fn kind_text(kind: Kind) -> &'static [u8]
+    ensures text { result.now ≡ kind_text kind }
+    ensures short { length result.now ≤ 20 }
+{
+    match kind {
+        Kind::Expected => b"expected",
+        Kind::Version => b"version",
+        Kind::InFarm => b"filter in farm",
+        Kind::Many => b"many",
+        Kind::Deep => b"deep",
+        Kind::Twice => b"twice",
+        Kind::Unknown => b"unknown",
+        Kind::WrongKind => b"wrong kind",
+        Kind::Width => b"width",
+        Kind::Range => b"range",
+        Kind::Byte => b"byte",
+        Kind::LongName => b"long name",
+        Kind::Number => b"number",
     }
 }
 

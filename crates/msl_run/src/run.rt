@@ -1,29 +1,32 @@
-ghost use Rattle.std.specs.Prelude.{◌≡◌, ◌≤◌, ◌↔◌, ◌∷◌, [], ℕ, List, IfOk, MatchOption, Some, length};
+ghost use Rattle.std.specs.Prelude.{◌≡◌, ◌≤◌, ℕ, List, IfErr, IfOk, Option, Some, length};
 ghost use Rattle.msl_io.specs.Causes.{Rose};
 ghost use Rattle.msl_run.specs.Causes.{count, Rises, HandsOn};
-ghost use Rattle.msl_run.specs.FunScript.{most_bytes};
 ghost use Rattle.msl_run.specs.Messages.{Tells};
-ghost use Rattle.msl_run.specs.TopCall.{command, ends, RunsCommand, RunsFile, RunsText, PlainCause, IsRefusal, IsComplete, IsRunnable};
+ghost use Rattle.msl_script.specs.ScriptReading.{most_bytes};
+ghost use Rattle.msl_run.specs.TopCall.{command, ends, check_text, Checks, ChecksText, EndsCheck, FetchesScript, IsCheck, IsNoScript, IsScriptOf, OfFile, RunsBuilt, RunsCommand, RunsText, PlainCause, IsRefusal, IsComplete, IsRunnable};
 
 use crate::message::tell;
-use crate::script_reader::read_script;
-use crate::sequence::run_sequence;
+use crate::sequence::{flushed, run_atomic};
 use crate::status::Status;
 use crate::words::{Command, Words, WordsFault, command_of};
-use msl_io::{Fetched, Library, Sink, Source};
+use msl_base::NoMemory;
+use msl_io::{Fetched, Library, Piece, Sink, Source, WriteFault, write_text};
+use msl_script::{Script, ScriptFault, Stage, need, print_script, read_script};
 use std::alloc::Global;
 
 /// How many bytes a script may have.
 const MOST_BYTES: usize = 1_048_576;
 
-/// Runs the command that the words are: fetches its script from `lib`, reads records from `src`, writes results to
-/// `out` and flushes them, and writes the message of the answer to `err`, unless it is `Done`.
+/// Runs the command that the words are: fetches its script from `lib`; at `seq` reads records from `src` and writes
+/// results to `out`, at `check` reads nothing and writes the canonical text and the line with the need. It flushes
+/// `out`, and writes the message of the answer to `err`, unless it is `Done`.
 ///
 /// Where the objects tell their bytes, the clause `ran` says what was read and written at each answer. `Usage` comes
-/// exactly where the words are no command. `Unbuilt` comes only where the script, if the library tells it, has another
-/// form than is built; at such a script `Library` or `Memory` may come instead, and nothing else. `Library`, `Read` and
-/// `Write` come only where the object counted a fault in this call, and `Memory` where memory ran out, which no clause
-/// says.
+/// exactly where the words are no command. Where the library tells the file, `ScriptLong` comes where it has more than
+/// 1,048,576 bytes, else `Script` where it is no script, with the first test that fails and its place, else, at `seq`
+/// alone, `Unbuilt` where its main stage isn't one function: there nothing else comes but `Library` and `Memory`, and
+/// none of the three comes anywhere else. `Library`, `Read` and `Write` come only where the object counted a fault in
+/// this call, and `Memory` where memory ran out, which no clause says.
 pub fn muesli_plain<L: Library, S: Source, K: Sink, E: Sink>(
     alloc: Global,
     words: &Words,
@@ -35,9 +38,9 @@ pub fn muesli_plain<L: Library, S: Source, K: Sink, E: Sink>(
     ensures ran { RunsCommand (command words.now) (L.file lib.old) (ends (S.left src.old) (S.left src.new) (K.held out.old) (K.held out.new)) result }
     ensures flushed { HandsOn result (K.flushed out.new) (K.held out.new) }
     ensures untouched { IsRefusal result → (src.new ≡ src.old) × (out.new ≡ out.old) }
-
+    ensures unread { IsCheck (command words.now) → src.new ≡ src.old }
     ensures cause { PlainCause result (count (L.faults lib.old) (L.faults lib.new)) (count (S.faults src.old) (S.faults src.new)) (count (K.faults out.old) (K.faults out.new)) }
-    // A script that is told and can be read runs to its end, unless an object counts a fault.
+    // Where a script that is told can be run and no object counts a fault, the answer is Done, Stream or Memory.
     ensures complete { IsRunnable (command words.now) (L.file lib.old) → (Rose (L.faults lib.old) (L.faults lib.new) → ⊥) → (Rose (S.faults src.old) (S.faults src.new) → ⊥) → (Rose (K.faults out.old) (K.faults out.new) → ⊥) → IsComplete result }
 
     ensures message { Tells result (E.held err.old) (E.held err.new) (E.faults err.old) (E.faults err.new) }
@@ -58,10 +61,12 @@ fn run_words<L: Library, S: Source, K: Sink>(
     ensures ran { RunsCommand (command words.now) (L.file lib.old) (ends (S.left src.old) (S.left src.new) (K.held out.old) (K.held out.new)) result }
     ensures flushed { HandsOn result (K.flushed out.new) (K.held out.new) }
     ensures untouched { IsRefusal result → (src.new ≡ src.old) × (out.new ≡ out.old) }
+    ensures unread { IsCheck (command words.now) → src.new ≡ src.old }
     ensures cause { PlainCause result (count (L.faults lib.old) (L.faults lib.new)) (count (S.faults src.old) (S.faults src.new)) (count (K.faults out.old) (K.faults out.new)) }
 {
     match command_of(alloc, words) {
         Ok(Command::Seq(file)) => run_file(alloc, file.as_str(), lib, src, out),
+        Ok(Command::Check(file)) => check_file(alloc, file.as_str(), lib, out),
         Err(WordsFault::Usage) => Status::Usage,
         Err(WordsFault::NoMemory) => Status::Memory,
     }
@@ -75,32 +80,103 @@ fn run_file<L: Library, S: Source, K: Sink>(
     src: &mut S,
     out: &mut K,
 ) -> Status
-    ensures ran { RunsFile (L.file lib.old name.now) (ends (S.left src.old) (S.left src.new) (K.held out.old) (K.held out.new)) result }
+    ensures ran { OfFile RunsText (L.file lib.old name.now) (ends (S.left src.old) (S.left src.new) (K.held out.old) (K.held out.new)) result }
     ensures began { result ≡ Status.Usage → ⊥ }
     ensures flushed { HandsOn result (K.flushed out.new) (K.held out.new) }
     ensures untouched { IsRefusal result → (src.new ≡ src.old) × (out.new ≡ out.old) }
     ensures cause { PlainCause result (count (L.faults lib.old) (L.faults lib.new)) (count (S.faults src.old) (S.faults src.new)) (count (K.faults out.old) (K.faults out.new)) }
 {
-    match lib.fetch(alloc, name, MOST_BYTES) {
-        Fetched::Bytes(text) => run_text(alloc, text.as_slice(), src, out),
-        Fetched::Long => Status::Unbuilt,
-        Fetched::Failed => Status::Library,
-        Fetched::NoMemory => Status::Memory,
+    match script_of(alloc, name, lib) {
+        Ok(script) => run_script(alloc, &script, src, out),
+        Err(status) => status,
     }
 }
 
-// Runs the script of a text.
-fn run_text<S: Source, K: Sink>(alloc: Global, text: &[u8], src: &mut S, out: &mut K) -> Status
-    requires { length text.now ≤ most_bytes }
-    ensures ran { RunsText text.now (ends (S.left src.old) (S.left src.new) (K.held out.old) (K.held out.new)) result }
-    ensures began { (result ≡ Status.Usage → ⊥) × (result ≡ Status.Library → ⊥) }
+// Runs a script.
+fn run_script<S: Source, K: Sink>(
+    alloc: Global,
+    script: &Script,
+    src: &mut S,
+    out: &mut K,
+) -> Status
+    ensures ran { RunsBuilt script.now (ends (S.left src.old) (S.left src.new) (K.held out.old) (K.held out.new)) result }
     ensures flushed { HandsOn result (K.flushed out.new) (K.held out.new) }
     ensures untouched { IsRefusal result → (src.new ≡ src.old) × (out.new ≡ out.old) }
     ensures cause { PlainCause result (count 0 0) (count (S.faults src.old) (S.faults src.new)) (count (K.faults out.old) (K.faults out.new)) }
 {
+    match script.main() {
+        Stage::Atomic(f) => run_atomic(alloc, script.funs().muscle(*f), src, out),
+        _ => Status::Unbuilt,
+    }
+}
+
+// Checks the script of a file.
+fn check_file<L: Library, K: Sink>(alloc: Global, name: &str, lib: &mut L, out: &mut K) -> Status
+    ensures checked { (left : Option (List ℕ)) → OfFile ChecksText (L.file lib.old name.now) (ends left left (K.held out.old) (K.held out.new)) result }
+    ensures ending { EndsCheck result }
+    ensures flushed { HandsOn result (K.flushed out.new) (K.held out.new) }
+    ensures untouched { IsRefusal result → out.new ≡ out.old }
+    ensures cause { PlainCause result (count (L.faults lib.old) (L.faults lib.new)) (count 0 0) (count (K.faults out.old) (K.faults out.new)) }
+{
+    match script_of(alloc, name, lib) {
+        Ok(script) => check_script(alloc, &script, out),
+        Err(status) => status,
+    }
+}
+
+// Writes what a check says of a script.
+fn check_script<K: Sink>(alloc: Global, script: &Script, out: &mut K) -> Status
+    ensures checked { Checks script.now (K.held out.old) (K.held out.new) result }
+    ensures flushed { HandsOn result (K.flushed out.new) (K.held out.new) }
+    ensures untouched { IsRefusal result → out.new ≡ out.old }
+    ensures cause { PlainCause result (count 0 0) (count 0 0) (count (K.faults out.old) (K.faults out.new)) }
+{
+    let Ok(text) = check_text(alloc, script) else {
+        return Status::Memory;
+    };
+    match write_text(out, text.as_slice()) {
+        Ok(()) => flushed(out, Status::Done),
+        Err(WriteFault) => Status::Write,
+    }
+}
+
+// The canonical text of a script, and how many processes it needs.
+fn check_text(alloc: Global, script: &Script) -> Result<Vec<u8>, NoMemory>
+    ensures { IfOk result (λ t. t.items ≡ check_text script.now) }
+{
+    let mut text = print_script(alloc, script)?.into_vec();
+    let mut last = Piece::new();
+    last.push_bytes(b"# need ");
+    last.push_decimal(need(script));
+    last.push(b'\n');
+    text.extend_from_slice(last.as_slice())?;
+    Ok(text)
+}
+
+// The script of a file, or why there is none.
+fn script_of<L: Library>(alloc: Global, name: &str, lib: &mut L) -> Result<Script, Status>
+    ensures script { IsScriptOf (L.file lib.old name.now) result }
+    ensures refusal { IfErr result IsNoScript }
+    ensures cause { FetchesScript result (count (L.faults lib.old) (L.faults lib.new)) }
+{
+    match lib.fetch(alloc, name, MOST_BYTES) {
+        Fetched::Bytes(text) => script_in(alloc, text.as_slice()),
+        Fetched::Long => Err(Status::ScriptLong),
+        Fetched::Failed => Err(Status::Library),
+        Fetched::NoMemory => Err(Status::Memory),
+    }
+}
+
+// The script of a text, or why it is none.
+fn script_in(alloc: Global, text: &[u8]) -> Result<Script, Status>
+    requires { length text.now ≤ most_bytes }
+    ensures script { IsScriptOf (Some text.now) result }
+    ensures refusal { IfErr result IsNoScript }
+    ensures read { IfErr result (λ s. s ≡ Status.Library → ⊥) }
+{
     match read_script(alloc, text) {
-        Ok(Some(script)) => run_sequence(alloc, &script, src, out),
-        Ok(None) => Status::Unbuilt,
-        Err(_) => Status::Memory,
+        Ok(script) => Ok(script),
+        Err(ScriptFault::At(kind, at)) => Err(Status::Script(kind, at)),
+        Err(ScriptFault::NoMemory) => Err(Status::Memory),
     }
 }

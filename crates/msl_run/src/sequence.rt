@@ -1,36 +1,24 @@
 ghost use Rattle.std.specs.Prelude.{◌≡◌, ◌<◌, ◌≤◌, ℕ, length};
 ghost use Rattle.std.specs.Io.KnownBytes.{Keeps};
 ghost use Rattle.msl_base.specs.Streams.{pointwise};
-ghost use Rattle.msl_run.specs.Stages.{atomic_outcome, SeqRuns, HasStages};
+ghost use Rattle.msl_script.specs.Calls.{atomic_outcome};
 ghost use Rattle.msl_run.specs.Headline.{RanTold};
 ghost use Rattle.msl_run.specs.Causes.{StreamCause, IsEnding, HandsOn, count};
 ghost use Rattle.msl_run.specs.Steps.{next_of, Stepped, StepCause, Flushed};
 
-use crate::script::Script;
 use crate::status::Status;
 use msl_base::{Fault, Rec};
 use msl_io::{Line, LineReader, Sink, Source, WriteFault, write_rec};
 use msl_muscle::{EvalFault, Muscle};
 use std::alloc::Global;
 
-/// Runs a script over the records of a source, in their order.
-pub fn run_sequence<S: Source, K: Sink>(
+/// Runs one function over the records of a source, in their order.
+pub fn run_atomic<S: Source, K: Sink>(
     alloc: Global,
-    script: &Script,
+    f: Muscle<'_>,
     src: &mut S,
     out: &mut K,
 ) -> Status
-    requires { HasStages script.now }
-    ensures ran { RanTold (SeqRuns script.now) (S.left src.old) (S.left src.new) (K.held out.old) (K.held out.new) result }
-    ensures cause { StreamCause result (count (S.faults src.old) (S.faults src.new)) (count (K.faults out.old) (K.faults out.new)) }
-    ensures ending { IsEnding result }
-    ensures flushed { HandsOn result (K.flushed out.new) (K.held out.new) }
-{
-    run_atomic(alloc, script.funs.muscle(script.main.place()), src, out)
-}
-
-// Runs one function over the records of a source.
-fn run_atomic<S: Source, K: Sink>(alloc: Global, f: Muscle<'_>, src: &mut S, out: &mut K) -> Status
     ensures ran { RanTold (λ X Y. Y ≡ pointwise (atomic_outcome f.entry.funs.now 1 f.entry.at) X) (S.left src.old) (S.left src.new) (K.held out.old) (K.held out.new) result }
     ensures cause { StreamCause result (count (S.faults src.old) (S.faults src.new)) (count (K.faults out.old) (K.faults out.new)) }
     ensures ending { IsEnding result }
@@ -68,8 +56,8 @@ fn next_record(line: Line) -> Result<Rec, Status>
     }
 }
 
-// Flushes, and answers the status or a fault of writing.
-fn flushed<K: Sink>(out: &mut K, status: Status) -> Status
+/// Flushes, and answers the status or a fault of writing.
+pub fn flushed<K: Sink>(out: &mut K, status: Status) -> Status
     ensures kept { Keeps (K.held out.old) (K.held out.new) }
     ensures status { Flushed status result (K.faults out.old) (K.faults out.new) }
     ensures flushed { HandsOn result (K.flushed out.new) (K.held out.new) }

@@ -2,17 +2,23 @@ ghost use Rattle.std.specs.Prelude.{◌≡◌};
 ghost use Rattle.msl_run.specs.Causes.{code_of};
 
 use msl_base::Fault;
+use msl_lex::Kind;
 
 /// How a run of the program ended.
 #[derive(Clone, Copy, Debug)]
 pub enum Status {
-    /// All records were read, and all results were written.
+    /// At `seq` all records were read and all results written; at `check` all was written.
     Done,
     /// The words are no command.
     Usage,
     /// The script can't be fetched.
     Library,
-    /// The script is of a form that isn't built yet.
+    /// The script has more than 1,048,576 bytes.
+    ScriptLong,
+    /// The text is no script: the first test that fails, and the place in bytes at which the token begins that it
+    /// names.
+    Script(Kind, u32),
+    /// At `seq`, the script's main stage isn't one function.
     Unbuilt,
     /// The stream ended with this fault.
     Stream(Fault),
@@ -33,7 +39,7 @@ impl Status {
         match self {
             Status::Done => 0,
             Status::Stream(_) => 1,
-            Status::Usage | Status::Unbuilt => 2,
+            Status::Usage | Status::ScriptLong | Status::Script(..) | Status::Unbuilt => 2,
             Status::Library | Status::Read | Status::Write => 3,
             Status::Memory => 4,
         }

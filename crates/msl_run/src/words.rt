@@ -1,7 +1,7 @@
 ghost use Rattle.std.specs.Prelude.{◌≡◌, MatchResult, Some, None, ◌↔◌, IsTrue};
-ghost use Rattle.msl_run.specs.TopCall.{command, is_operand};
+ghost use Rattle.msl_run.specs.TopCall.{command, command_on, is_operand};
 
-use msl_base::{ListOf, Name, NoMemory};
+use msl_base::{ListOf, Name};
 use std::alloc::Global;
 use thiserror::Error;
 
@@ -13,6 +13,8 @@ pub type Words = ListOf<Name>;
 pub enum Command {
     /// Run the script of this name in the order of its input.
     Seq(Name),
+    /// Write the canonical text of the script of this name, and how many processes it needs.
+    Check(Name),
 }
 
 /// Why words give no command.
@@ -26,22 +28,40 @@ pub enum WordsFault {
     NoMemory,
 }
 
-/// The command that the words are. They are one where they are `seq` and a name that isn't empty and doesn't begin
-/// with `-`; all others are `Usage`.
+/// The command that the words are. They are one where they are `seq` or `check` and a name that isn't empty and doesn't
+/// begin with `-`.
+///
+/// # Errors
+///
+/// `Usage` exactly where they are no command, and `NoMemory` where memory ran out.
 pub fn command_of(alloc: Global, words: &Words) -> Result<Command, WordsFault>
     ensures ok { MatchResult result (λ c. command words.now ≡ Some c) (λ e. (e ≡ WordsFault.Usage) ↔ (command words.now ≡ None)) }
 {
     match words.as_slice() {
         [word, file] => {
-            if word.as_str() != "seq" || !is_operand_word(file.as_str().as_bytes()) {
+            if !is_operand_word(file.as_str().as_bytes()) {
                 return Err(WordsFault::Usage);
             }
-            match Name::of(alloc, file.as_str()) {
-                Ok(file) => Ok(Command::Seq(file)),
-                Err(NoMemory) => Err(WordsFault::NoMemory),
-            }
+            command_on(alloc, word.as_str(), file.as_str())
         }
         _ => Err(WordsFault::Usage),
+    }
+}
+
+// The command that a word is, on this file.
+fn command_on(alloc: Global, word: &str, file: &str) -> Result<Command, WordsFault>
+    ensures ok { MatchResult result (λ c. command_on word.now file.now ≡ Some c) (λ e. (e ≡ WordsFault.Usage) ↔ (command_on word.now file.now ≡ None)) }
+{
+    if word != "seq" && word != "check" {
+        return Err(WordsFault::Usage);
+    }
+    let Ok(file) = Name::of(alloc, file) else {
+        return Err(WordsFault::NoMemory);
+    };
+    if word == "seq" {
+        Ok(Command::Seq(file))
+    } else {
+        Ok(Command::Check(file))
     }
 }
 

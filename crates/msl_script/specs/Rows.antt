@@ -7,7 +7,7 @@ use Rattle.msl_muscle.specs.declared.funs.Fun.{Fun}
 use Rattle.msl_muscle.specs.Shapes.{binary}
 use Rattle.msl_script.specs.declared.data.DataStep.TheVariants as step
 use Rattle.msl_script.specs.declared.script.ItemKind.TheVariants as item
-use Rattle.msl_script.specs.declared.script.Script.{Script}
+use Rattle.msl_script.specs.Script.{Script}
 use Rattle.msl_script.specs.declared.stage.Stage.TheVariants.{Atomic, Data}
 use Rattle.msl_script.specs.Operators.{op_of}
 

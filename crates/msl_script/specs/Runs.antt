@@ -5,26 +5,15 @@
 use Rattle.std.specs.Prelude.{◌≡◌, ℕ, ◌+◌, List, [], slice_get, Option, Some, None, Ok, Err}
 use Rattle.msl_base.specs.Streams.{Record, Outcome, Stream, Pointwise, Unordered, pointwise}
 use Rattle.msl_muscle.specs.Whole.{◌>>=◌}
-use Rattle.msl_script.specs.declared.script.Script.{Script}
+use Rattle.msl_script.specs.Script.{Script}
 use Rattle.msl_script.specs.declared.stage.Stage.{Stage, Row_of-Stage, end_of-Stage, more_of-Stage}
 use Rattle.msl_script.specs.declared.stage.Stage.TheVariants.{Atomic, Filter, Data, DivCon, Bnb, Pipe'}
-use Rattle.msl_script.specs.Stages.{farm}
+use Rattle.msl_script.specs.Stages.{farm, primitives_of}
 use Rattle.msl_script.specs.Calls.{atomic_outcome}
 use Rattle.msl_script.specs.Data.{data_outcome}
 use Rattle.msl_script.specs.Divide.{divcon_outcome}
 use Rattle.msl_script.specs.Searches.{BestOf, first_best_outcome}
 use Rattle.msl_script.specs.Filters.{filtered}
-
-abbrev mutual
-  -- the number of primitive stages
-  pub primitives : Stage → ℕ
-  primitives (farm n st) = primitives st
-  primitives (Pipe' _ sts) = primitives_of sts
-  primitives _ = 1
-
-  pub primitives_of : {n : _} → Row_of-Stage n → ℕ
-  primitives_of end_of-Stage = 0
-  primitives_of (more_of-Stage st sts) = primitives st + primitives_of sts
 
 -- at the place of a list where there is one
 abbrev pub AtPlace : {A : Type 0} → List A → ℕ → (A → Type 0) → Type 0
@@ -44,7 +33,7 @@ module _ (s : Script) where
     -- through the stages one after the other, up to the first fault
     pub OneThrough : {n : _} → ℕ → Row_of-Stage n → Record → Outcome → Type 0
     OneThrough k end_of-Stage x r = r ≡ Ok x
-    OneThrough k (more_of-Stage st sts) x r = (m : Outcome) × One k st x m × (elim m [ Ok y ↦ OneThrough (k + primitives st) sts y r | Err f ↦ r ≡ Err f ])
+    OneThrough k (more_of-Stage st sts) x r = (m : Outcome) × One k st x m × (elim m [ Ok y ↦ OneThrough (k + primitives_of st) sts y r | Err f ↦ r ≡ Err f ])
 
   abbrev mutual
     pub Runs : ℕ → Stage → Stream → Stream → Type 0
@@ -59,7 +48,7 @@ module _ (s : Script) where
     -- the output of each stage is the input of the next
     pub RunsThrough : {n : _} → ℕ → Row_of-Stage n → Stream → Stream → Type 0
     RunsThrough k end_of-Stage X Y = Y ≡ X
-    RunsThrough k (more_of-Stage st sts) X Y = (Z : Stream) × Runs k st X Z × RunsThrough (k + primitives st) sts Z Y
+    RunsThrough k (more_of-Stage st sts) X Y = (Z : Stream) × Runs k st X Z × RunsThrough (k + primitives_of st) sts Z Y
 
 -- the meaning of a script
 abbrev pub RunsMain : Script → Stream → Stream → Type 0
@@ -89,7 +78,7 @@ module _ (s : Script) where
 
     pub seq_through : {n : _} → ℕ → Row_of-Stage n → Record → Outcome
     seq_through k end_of-Stage x = Ok x
-    seq_through k (more_of-Stage st sts) x = seq_one k st x >>= λ y. seq_through (k + primitives st) sts y
+    seq_through k (more_of-Stage st sts) x = seq_one k st x >>= λ y. seq_through (k + primitives_of st) sts y
 
   abbrev mutual
     pub seq_run : ℕ → Stage → Stream → Stream
@@ -103,7 +92,7 @@ module _ (s : Script) where
 
     pub seq_run_through : {n : _} → ℕ → Row_of-Stage n → Stream → Stream
     seq_run_through k end_of-Stage X = X
-    seq_run_through k (more_of-Stage st sts) X = seq_run_through (k + primitives st) sts (seq_run k st X)
+    seq_run_through k (more_of-Stage st sts) X = seq_run_through (k + primitives_of st) sts (seq_run k st X)
 
 -- what `seq` makes of a stream
 abbrev pub SeqRuns : Script → Stream → Stream → Type 0

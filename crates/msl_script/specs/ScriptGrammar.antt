@@ -26,12 +26,11 @@
 --     stage  = "atomic" name | "filter" name
 --            | ("data" | "divcon" | "bnb") name "on" num
 --            | "farm" num "{" stage "}" | "pipe" "{" stage { ";" stage } "}"
-use Rattle.std.specs.Prelude.{◌≡◌, ℕ, ◌+◌, ◌*◌, Bool, true, false, not, ◌&&◌, ◌||◌, ◌==◌, nat_lt, nat_le, ℤ, pos, neg_ℤ, List, [], ◌∷◌, ◌++◌, length, map, slice_index_or, Option, Some, None, unwrap_or, Result, Ok, Err, if◌then◌else◌, codes}
-use Rattle.std.specs.Str.{bytes_eq}
+use Rattle.std.specs.Prelude.{◌≡◌, ℕ, ◌+◌, ◌*◌, Bool, true, false, not, ◌&&◌, ◌==◌, nat_lt, nat_le, ℤ, pos, neg_ℤ, List, [], ◌∷◌, ◌++◌, length, Option, Some, None, Result, Ok, Err, if◌then◌else◌, codes}
 use Rattle.msl_lex.specs.declared.token.LexFault.{LexFault}
 use Rattle.msl_lex.specs.declared.token.LexFault.TheVariants as fault
-use Rattle.msl_lex.specs.declared.kind.Kind.TheVariants.{Version, InFarm, Many, Deep, Twice, Unknown, WrongKind, Width, Range, Byte, LongName, Number}
-use Rattle.msl_lex.specs.Lexemes.{Form, Lexeme, word, number, sign, close, lexemes}
+use Rattle.msl_lex.specs.declared.kind.Kind.TheVariants as kind
+use Rattle.msl_lex.specs.Lexemes.{Form, Lexeme, word, number, close, lexemes}
 use Rattle.msl_ops.specs.declared.op.Op.{Op}
 use Rattle.msl_ops.specs.declared.op.OpKind.{OpKind}
 use Rattle.msl_ops.specs.declared.op.OpKind.TheVariants.{Sum}
@@ -39,113 +38,35 @@ use Rattle.msl_ops.specs.Table.{rows, kind_named}
 use Rattle.msl_muscle.specs.declared.funs.Fun.{Fun}
 use Rattle.msl_muscle.specs.Checks.{Text, is_among, names_of}
 use Rattle.msl_muscle.specs.Reading.{Refusal, Test, test, Move, takes, ends, stops, read, says}
-use Rattle.msl_muscle.specs.Grammar.{name_in, place_among}
+use Rattle.msl_muscle.specs.Grammar.{name_in}
 use Rattle.msl_muscle.specs.Grammar as fun_grammar
 use Rattle.msl_script.specs.declared.data.Arg.{Arg}
 use Rattle.msl_script.specs.declared.data.Arg.TheVariants as arg
 use Rattle.msl_script.specs.declared.data.UseSpec.{UseSpec}
 use Rattle.msl_script.specs.declared.data.DataStep.{DataStep}
 use Rattle.msl_script.specs.declared.data.DataStep.TheVariants as step
-use Rattle.msl_script.specs.declared.data.DataLine.{DataLine}
 use Rattle.msl_script.specs.declared.data.DataProg.{DataProg}
 use Rattle.msl_script.specs.declared.script.FilterSpec.{FilterSpec}
 use Rattle.msl_script.specs.declared.script.DivCon as divcon
 use Rattle.msl_script.specs.declared.script.BnbSpec.{BnbSpec}
-use Rattle.msl_script.specs.declared.script.ItemKind.{ItemKind}
-use Rattle.msl_script.specs.declared.script.ItemKind.TheVariants as item
-use Rattle.msl_script.specs.declared.script.Script.{Script}
+use Rattle.msl_script.specs.Script.{Script}
 use Rattle.msl_script.specs.declared.stage.Stage.{Stage}
 use Rattle.msl_script.specs.declared.stage.Stage.TheVariants.{Atomic, Filter, Data, DivCon, Bnb}
+use Rattle.msl_script.specs.declared.read.known.Known.{Known}
+use Rattle.msl_script.specs.declared.read.width.Width.{Width}
+use Rattle.msl_script.specs.declared.read.width.Width.TheVariants.{Any, Exactly, AtLeast, AtMost, Shared}
+use Rattle.msl_script.specs.declared.read.shape.Shape.{Shape}
+use Rattle.msl_script.specs.declared.read.shape.Shape.TheVariants as shape
+use Rattle.msl_script.specs.declared.read.shape.Need.{Need}
+use Rattle.msl_script.specs.declared.read.shape.Need.TheVariants as need
+use Rattle.msl_script.specs.declared.read.program.Program.{Program}
+use Rattle.msl_script.specs.declared.read.program.Used.{Used}
+use Rattle.msl_script.specs.declared.read.nest.Nest.{Nest}
+use Rattle.msl_script.specs.declared.read.nest.Counts.{Counts}
 use Rattle.msl_script.specs.Stages.{farm, pipe}
 use Rattle.msl_script.specs.Operators.{has_modulus, op_of}
-
--- ---- what is known
-
--- the definitions so far
-pub record Known : Type 0 where
-  pub funs : List Fun
-  pub datas : List DataProg
-  pub filters : List FilterSpec
-  pub divcons : List divcon.DivCon
-  pub bnbs : List BnbSpec
-  pub order : List ItemKind
-
-abbrev pub nothing_known : Known
-nothing_known = record { funs = []; datas = []; filters = []; divcons = []; bnbs = []; order = [] }
-
-abbrev pub data_names : Known → List Text
-data_names m = map (λ d. d.name) m.datas
-
-abbrev pub filter_names : Known → List Text
-filter_names m = map (λ d. d.name) m.filters
-
-abbrev pub divcon_names : Known → List Text
-divcon_names m = map (λ d. d.name) m.divcons
-
-abbrev pub bnb_names : Known → List Text
-bnb_names m = map (λ d. d.name) m.bnbs
-
--- the names of definitions that are no functions
-abbrev pub others : Known → List Text
-others m = data_names m ++ (filter_names m ++ (divcon_names m ++ bnb_names m))
-
-abbrev pub is_declared : Known → Text → Bool
-is_declared m n = is_among (names_of m.funs) n || is_among (others m) n
-
-abbrev pub with_fun : Known → Fun → Known
-with_fun m f = record m { funs = m.funs ++ f ∷ []; order = m.order ++ item.Fun ∷ [] }
-
-abbrev pub with_data : Known → DataProg → Known
-with_data m d = record m { datas = m.datas ++ d ∷ []; order = m.order ++ item.Data ∷ [] }
-
-abbrev pub with_filter : Known → FilterSpec → Known
-with_filter m f = record m { filters = m.filters ++ f ∷ []; order = m.order ++ item.Filter ∷ [] }
-
-abbrev pub with_divcon : Known → divcon.DivCon → Known
-with_divcon m d = record m { divcons = m.divcons ++ d ∷ []; order = m.order ++ item.DivCon ∷ [] }
-
-abbrev pub with_bnb : Known → BnbSpec → Known
-with_bnb m b = record m { bnbs = m.bnbs ++ b ∷ []; order = m.order ++ item.Bnb ∷ [] }
-
--- what a line of a data program is: an array with its blocks, a matrix with its four numbers, or a number
-pub data Shape : Type 0 where
-  array : ℕ → Shape
-  matrix : ℕ → ℕ → ℕ → ℕ → Shape
-  one_number : Shape
-
--- a data program so far
-pub record Program : Type 0 where
-  pub name : Text
-  pub lines : List DataLine
-  pub shapes : List Shape
-
-abbrev pub with_line : Program → Text → DataStep → Shape → Program
-with_line p n s shape = record p { lines = p.lines ++ record { name = n; step = s } ∷ []; shapes = p.shapes ++ shape ∷ [] }
-
--- a function with its first arguments so far, and where its name stands
-pub record Used : Type 0 where
-  pub fun : ℕ
-  pub at : ℕ
-  pub args : List Arg
-
-abbrev pub use_spec : Used → UseSpec
-use_spec u = record { fun = u.fun; args = u.args }
-
--- where a stage stands: how many farms and pipes are open around it, and how many of them are farms
-pub record Nest : Type 0 where
-  pub opened : ℕ
-  pub farms : ℕ
-
--- the primitive stages so far, and the filters among them
-pub record Counts : Type 0 where
-  pub primitives : ℕ
-  pub filters : ℕ
-
-abbrev pub one_primitive : Counts → Counts
-one_primitive c = record c { primitives = c.primitives + 1 }
-
-abbrev pub one_filter : Counts → Counts
-one_filter c = record { primitives = c.primitives + 1; filters = c.filters + 1 }
+use Rattle.msl_script.specs.Known.{nothing_known, data_names, filter_names, divcon_names, bnb_names, is_declared, with_fun, with_data, with_filter, with_divcon, with_bnb, place, params_of, results_of, allows}
+use Rattle.msl_script.specs.Programs.{no_lines, with_line, line_names, shape_of, suits, turned, blocks_of, given, used, with_arg, use_spec, use_fits}
 
 -- ---- what is still to come
 
@@ -153,26 +74,47 @@ one_filter c = record { primitives = c.primitives + 1; filters = c.filters + 1 }
 pub data State : Type 0 where
   -- a quoted token
   token : Text → State → State
-  -- a name, a number or an integer, under tests
-  a_name : (Text → ℕ → List Test) → (Text → ℕ → State) → State
-  a_number : (ℕ → ℕ → List Test) → (ℕ → ℕ → State) → State
-  an_integer : (ℕ → List Test) → (ℤ → State) → State
+  -- the number of the language's version
+  version : State → State
   -- a function that is being read
   a_fun : Known → fun_grammar.State → (Fun → State) → State
+  -- a name that is not declared yet
+  fresh : Known → (Text → State) → State
+  -- a function with so many parameters and results
+  a_function : Known → Width → Width → (ℕ → State) → State
+  -- a definition among those of these names
+  a_definition : Known → List Text → (ℕ → State) → State
+  -- a number from one to another, both included
+  a_number : ℕ → ℕ → (ℕ → State) → State
+  -- any number, and one with its place
+  a_natural : (ℕ → State) → State
+  a_placed_number : (ℕ × ℕ → State) → State
+  an_integer : (ℤ → State) → State
   items : Known → State
-  -- behind a state number: more of them, or the end of the list
-  more_integers : List ℤ → (List ℤ → State) → State
-  lines : Known → Program → State
-  a_step : Known → Program → (DataStep → Shape → State) → State
+  -- one more state number than these, and behind these more of them or the end of the list
+  a_state_number : List ℤ → (ℤ → State) → State
+  more_state_numbers : List ℤ → (List ℤ → State) → State
+  -- lines behind these, and the one that is given
+  lines : Known → Program → (Program × ℕ → State) → State
+  a_step : Known → Program → (DataStep × Shape → State) → State
   -- behind `array` and its blocks: maybe the part of the record
-  maybe_part : ℕ → (DataStep → Shape → State) → State
-  -- behind the name of a function: maybe arguments
+  maybe_part : ℕ → (DataStep × Shape → State) → State
+  -- a size whose product with the one before it has a limit
+  a_size : ℕ → ℕ → (ℕ → State) → State
+  -- the name of a function that a step uses, and behind it maybe arguments
+  a_use_name : Known → (Used → State) → State
   maybe_args : Program → Used → (Used → State) → State
   more_args : Program → Used → (Used → State) → State
   an_arg : Program → (Arg → State) → State
+  -- an earlier line that is such
+  a_line : Program → Need → (ℕ × Shape → State) → State
+  -- the first line that a step works on, at which its function is tested
+  a_container : Known → Program → Used → Need → ℕ → ℕ → (ℕ × Shape → State) → State
+  -- an array that has a block of this number
+  a_block_of : Program → ℕ × ℕ → (ℕ × Shape → State) → State
   an_operator : (Op → State) → State
-  a_stage : Known → Nest → Counts → (Counts → Stage → State) → State
-  more_stages : Known → Nest → Counts → List Stage → (Counts → Stage → State) → State
+  a_stage : Known → Nest → Counts → (Counts × Stage → State) → State
+  more_stages : Known → Nest → Counts → List Stage → (Counts × Stage → State) → State
   finish : Script → State
 
 abbrev pub Turn : Type 0
@@ -181,245 +123,140 @@ Turn = Move State Script
 abbrev pub go : State → Turn
 go s = takes [] s
 
--- ---- tests
+-- ---- filters, divisions and searches, behind their first word
 
-abbrev pub no_test : ℕ → List Test
-no_test at = []
-
-abbrev pub fresh : Known → Text → ℕ → List Test
-fresh m n at = test Twice at (not (is_declared m n)) ∷ []
-
-abbrev pub is_between : ℕ → ℕ → ℕ → Bool
-is_between low high v = nat_le low v && nat_le v high
-
-abbrev pub between : ℕ → ℕ → ℕ → ℕ → List Test
-between low high v at = test Range at (is_between low high v) ∷ []
-
--- a definition of one kind
-abbrev pub of_kind : Known → List Text → Text → ℕ → List Test
-of_kind m names n at = test Unknown at (is_declared m n) ∷ test WrongKind at (is_among names n) ∷ []
-
-abbrev pub place : List Text → Text → ℕ
-place names n = unwrap_or (place_among names n) 0
-
-abbrev pub params_of : Known → ℕ → ℕ
-params_of m f = slice_index_or (map (λ g. length g.params) m.funs) f 0
-
-abbrev pub results_of : Known → ℕ → ℕ
-results_of m f = slice_index_or (map (λ g. length g.results) m.funs) f 0
-
-abbrev pub fun_place : Known → Text → ℕ
-fun_place m n = place (names_of m.funs) n
-
--- a function whose parameters and results fit
-abbrev pub a_function : Known → (ℕ → ℕ → Bool) → (ℕ → State) → State
-a_function m fits k =
-    a_name (λ n at. of_kind m (names_of m.funs) n at ++ test Width at (fits (params_of m (fun_place m n)) (results_of m (fun_place m n))) ∷ []) (λ n at. k (fun_place m n))
-
--- a word, a function that fits, and `;`
-abbrev pub clause : Known → Text → (ℕ → ℕ → Bool) → (ℕ → State) → State
-clause m text fits k = token text (a_function m fits (λ f. token (codes ";") (k f)))
+-- a word, a function with so many parameters and results, and `;`
+abbrev pub clause : Known → Text → Width → Width → (ℕ → State) → State
+clause m text params results k = token text (a_function m params results (λ f. token (codes ";") (k f)))
 
 -- a word, a number in a range, and `;`
 abbrev pub numbered : Text → ℕ → ℕ → (ℕ → State) → State
-numbered text low high k = token text (a_number (between low high) (λ v at. token (codes ";") (k v)))
+numbered text low high k = token text (a_number low high (λ v. token (codes ";") (k v)))
 
--- ---- filters, divisions and searches, behind their first word
+abbrev pub state_numbers : (List ℤ → State) → State
+state_numbers k = an_integer (λ z. more_state_numbers (z ∷ []) k)
 
--- so many state numbers w, and `count` of w + v parameters
-abbrev pub filter_clauses : Known → Text → List ℤ → State
-filter_clauses m name state =
-    let w = length state in
-    clause m (codes "count") (λ p r. nat_lt w p && (r == 1)) (λ count.
-    clause m (codes "item") (λ p r. p == params_of m count + 1) (λ item.
-    clause m (codes "next") (λ p r. (p == params_of m count) && (r == w)) (λ next.
-    clause m (codes "flush") (λ p r. (p == w) && (r == 1)) (λ flush.
-    clause m (codes "last") (λ p r. p == w + 1) (λ last.
-    token (codes "}") (items (with_filter m (record { name = name; state = state; count = count; item = item; next = next; flush = flush; last = last }))))))))
+abbrev pub filter_rule : Known → (FilterSpec → State) → State
+filter_rule m k =
+    fresh m (λ name. token (codes "{") (token (codes "state") (state_numbers (λ state.
+    clause m (codes "count") (AtLeast (length state + 1)) (Exactly 1) (λ count.
+    clause m (codes "item") (Exactly (params_of m count + 1)) Any (λ item.
+    clause m (codes "next") (Exactly (params_of m count)) (Exactly (length state)) (λ next.
+    clause m (codes "flush") (Exactly (length state)) (Exactly 1) (λ flush.
+    clause m (codes "last") (Exactly (length state + 1)) Any (λ last.
+    token (codes "}") (k (record { name = name; state = state; count = count; item = item; next = next; flush = flush; last = last })))))))))))
 
-abbrev pub filter_rule : Known → State
-filter_rule m = a_name (fresh m) (λ name at. token (codes "{") (token (codes "state") (an_integer no_test (λ z. more_integers (z ∷ []) (filter_clauses m name)))))
-
-abbrev pub divcon_rule : Known → State
-divcon_rule m =
-    a_name (fresh m) (λ name at. token (codes "{")
+abbrev pub divcon_rule : Known → (divcon.DivCon → State) → State
+divcon_rule m k =
+    fresh m (λ name. token (codes "{")
     (numbered (codes "parts") 2 16 (λ parts.
     numbered (codes "cutoff") 0 64 (λ cutoff.
-    clause m (codes "simple") (λ p r. r == 1) (λ simple.
-    clause m (codes "solve") (λ p r. (p == params_of m simple) && nat_le (parts * r) 16) (λ solve.
-    clause m (codes "divide") (λ p r. (p == params_of m simple + 1) && (r == params_of m simple)) (λ divide.
-    clause m (codes "combine") (λ p r. (p == parts * results_of m solve) && (r == results_of m solve)) (λ combine.
-    token (codes "}") (items (with_divcon m (record { name = name; parts = parts; cutoff = cutoff; simple = simple; solve = solve; divide = divide; combine = combine })))))))))))
+    clause m (codes "simple") Any (Exactly 1) (λ simple.
+    clause m (codes "solve") (Exactly (params_of m simple)) (Shared parts) (λ solve.
+    clause m (codes "divide") (Exactly (params_of m simple + 1)) (Exactly (params_of m simple)) (λ divide.
+    clause m (codes "combine") (Exactly (parts * results_of m solve)) (Exactly (results_of m solve)) (λ combine.
+    token (codes "}") (k (record { name = name; parts = parts; cutoff = cutoff; simple = simple; solve = solve; divide = divide; combine = combine }))))))))))
 
-abbrev pub bnb_rule : Known → State
-bnb_rule m =
-    a_name (fresh m) (λ name at. token (codes "{")
-    (clause m (codes "bound") (λ p r. nat_le p 15 && (r == 1)) (λ bound.
-    let is_like : ℕ → ℕ → Bool = λ p r. (p == params_of m bound) && (r == 1) in
-    clause m (codes "solved") is_like (λ solved.
-    clause m (codes "value") is_like (λ value.
-    clause m (codes "count") is_like (λ count.
-    clause m (codes "branch") (λ p r. (p == params_of m bound + 1) && (r == params_of m bound)) (λ branch.
-    token (codes "}") (items (with_bnb m (record { name = name; bound = bound; solved = solved; value = value; count = count; branch = branch }))))))))))
+abbrev pub bnb_rule : Known → (BnbSpec → State) → State
+bnb_rule m k =
+    fresh m (λ name. token (codes "{")
+    (clause m (codes "bound") (AtMost 15) (Exactly 1) (λ bound.
+    clause m (codes "solved") (Exactly (params_of m bound)) (Exactly 1) (λ solved.
+    clause m (codes "value") (Exactly (params_of m bound)) (Exactly 1) (λ value.
+    clause m (codes "count") (Exactly (params_of m bound)) (Exactly 1) (λ count.
+    clause m (codes "branch") (Exactly (params_of m bound + 1)) (Exactly (params_of m bound)) (λ branch.
+    token (codes "}") (k (record { name = name; bound = bound; solved = solved; value = value; count = count; branch = branch })))))))))
 
--- ---- data programs
+-- ---- data programs, behind their first word
 
-abbrev pub line_names : Program → List Text
-line_names p = map (λ l. l.name) p.lines
+abbrev pub data_rule : Known → (DataProg → State) → State
+data_rule m k = fresh m (λ name. token (codes "{") (lines m no_lines (λ r. token (codes "}") (k (record { name = name; lines = (r.0).lines; give = r.1 })))))
 
-abbrev pub shape_at : Program → ℕ → Shape
-shape_at p k = slice_index_or p.shapes k one_number
+abbrev pub give_rule : Program → (Program × ℕ → State) → State
+give_rule p k = a_line p need.Any (λ l. token (codes ";") (k (p, l.0)))
 
-abbrev pub shape_of : Program → Text → Shape
-shape_of p n = shape_at p (place (line_names p) n)
-
-abbrev pub is_array : Shape → Bool
-is_array (array b) = true
-is_array _ = false
-
-abbrev pub is_matrix : Shape → Bool
-is_matrix (matrix r c p q) = true
-is_matrix _ = false
-
-abbrev pub is_container : Shape → Bool
-is_container s = is_array s || is_matrix s
-
-abbrev pub is_any : Shape → Bool
-is_any s = true
-
-abbrev pub is_one_number : Shape → Bool
-is_one_number s = not (is_container s)
-
-abbrev pub blocks_of : Shape → ℕ
-blocks_of (array b) = b
-blocks_of _ = 0
-
-abbrev pub turned : Shape → Shape
-turned (matrix r c p q) = matrix c r q p
-turned s = s
-
-abbrev pub same_shape : Shape → Shape → Bool
-same_shape (array b) (array c) = b == c
-same_shape (matrix r c p q) (matrix r' c' p' q') = (r == r') && (c == c') && (p == p') && (q == q')
-same_shape _ _ = false
-
--- how many arguments a step gives, by what it works on
-abbrev pub given : ℕ → ℕ → Shape → ℕ
-given for_array for_matrix (matrix r c p q) = for_matrix
-given for_array for_matrix _ = for_array
-
--- an earlier line that is such
-abbrev pub line_tests : Program → (Shape → Bool) → Text → ℕ → List Test
-line_tests p allows n at = test Unknown at (is_among (line_names p) n) ∷ test WrongKind at (allows (shape_of p n)) ∷ []
-
-abbrev pub a_line : Program → (Shape → Bool) → (ℕ → Shape → State) → State
-a_line p allows k = a_name (line_tests p allows) (λ n at. k (place (line_names p) n) (shape_of p n))
-
--- the function has as many more parameters as the step gives, and one result
-abbrev pub use_fits : Known → Used → ℕ → Bool
-use_fits m u more = (params_of m u.fun == length u.args + more) && (results_of m u.fun == 1)
-
--- the first container of a step, at which the function's width is tested
-abbrev pub a_container : Known → Program → Used → (Shape → Bool) → ℕ → ℕ → (ℕ → Shape → State) → State
-a_container m p u allows for_array for_matrix k =
-    a_name (λ n at. line_tests p allows n at ++ test Width u.at (use_fits m u (given for_array for_matrix (shape_of p n))) ∷ []) (λ n at. k (place (line_names p) n) (shape_of p n))
-
-abbrev pub a_use : Known → Program → (Used → State) → State
-a_use m p k = a_name (of_kind m (names_of m.funs)) (λ n at. maybe_args p (record { fun = fun_place m n; at = at; args = [] }) k)
-
-abbrev pub with_use : Known → Program → (Shape → Bool) → ℕ → ℕ → (UseSpec → ℕ → DataStep) → (DataStep → Shape → State) → State
-with_use m p allows for_array for_matrix make k =
-    a_use m p (λ u. a_container m p u allows for_array for_matrix (λ c shape. k (make (use_spec u) c) shape))
-
-abbrev pub with_two : Known → Program → ℕ → ℕ → (UseSpec → ℕ → ℕ → DataStep) → (DataStep → Shape → State) → State
-with_two m p for_array for_matrix make k =
-    a_use m p (λ u. a_container m p u is_container for_array for_matrix (λ c shape. a_line p (same_shape shape) (λ d other. k (make (use_spec u) c d) shape)))
-
-abbrev pub foldl_rule : Known → Program → (DataStep → Shape → State) → State
-foldl_rule m p k = a_use m p (λ u. an_arg p (λ first. a_container m p u is_array 2 2 (λ c shape. k (step.Foldl (use_spec u) first c) one_number)))
-
-abbrev pub broadcast_rule : Program → (DataStep → Shape → State) → State
-broadcast_rule p k =
-    a_number (λ j at. []) (λ j where_is.
-    a_name (λ n at. line_tests p is_array n at ++ test Range where_is (nat_lt j (blocks_of (shape_of p n))) ∷ [])
-    (λ n at. k (step.BroadcastPartition j (place (line_names p) n)) (shape_of p n)))
-
--- a size; and one whose product with the one before it has a limit too
-abbrev pub a_size : ℕ → (ℕ → State) → State
-a_size most k = a_number (between 1 most) (λ v at. k v)
-
-abbrev pub a_size_with : ℕ → ℕ → (ℕ → State) → State
-a_size_with most before k = a_number (λ v at. test Range at (is_between 1 1048576 v && nat_le (before * v) most) ∷ []) (λ v at. k v)
-
-abbrev pub matrix_rule : (DataStep → Shape → State) → State
-matrix_rule k =
-    a_size 1048576 (λ r. a_size_with 1048576 r (λ c. token (codes "grid")
-    (a_size 1048576 (λ p. a_size_with 1024 p (λ q. token (codes "at")
-    (a_number (between 0 1048576) (λ at here. k (step.Matrix r c p q at) (matrix r c p q))))))))
-
-abbrev pub one_result : (DataStep → Shape → State) → DataStep → Shape → State
-one_result k s shape = k s one_number
-
--- what follows the first word of a step
-abbrev pub step_by : Form → Known → Program → (DataStep → Shape → State) → Turn
-step_by f m p k =
-    if says (codes "array") f then go (a_number (between 1 1024) (λ b at. maybe_part b k))
-    else if says (codes "matrix") f then go (matrix_rule k)
-    else if says (codes "map") f then go (with_use m p is_container 1 1 step.Map k)
-    else if says (codes "mapIndex") f then go (with_use m p is_container 2 3 step.MapIndex k)
-    else if says (codes "zip") f then go (with_two m p 2 2 step.Zip k)
-    else if says (codes "zipIndex") f then go (with_two m p 3 4 step.ZipIndex k)
-    else if says (codes "fold") f then go (an_operator (λ op. a_line p is_container (λ c shape. k (step.Fold op c) one_number)))
-    else if says (codes "scan") f then go (an_operator (λ op. a_line p is_array (λ c shape. k (step.Scan op c) shape)))
-    else if says (codes "foldl") f then go (foldl_rule m p k)
-    else if says (codes "permutePartition") f then go (with_use m p is_array 1 1 step.PermutePartition k)
-    else if says (codes "permute") f then go (with_use m p is_array 1 1 step.Permute k)
-    else if says (codes "broadcastPartition") f then go (broadcast_rule p k)
-    else if says (codes "rotateRows") f then go (with_use m p is_matrix 1 1 step.RotateRows k)
-    else if says (codes "rotateCols") f then go (with_use m p is_matrix 1 1 step.RotateCols k)
-    else if says (codes "transpose") f then go (a_line p is_matrix (λ c shape. k (step.Transpose c) (turned shape)))
-    else stops
-
-abbrev pub part_rule : ℕ → (DataStep → Shape → State) → State
-part_rule b k = a_number (between 0 1048576) (λ at here. token (codes "len") (a_number (between 0 1048576) (λ len there. k (step.ArrayAt b at len) (array b))))
-
-abbrev pub data_rule : Known → State
-data_rule m = a_name (fresh m) (λ name at. token (codes "{") (lines m (record { name = name; lines = []; shapes = [] })))
-
-abbrev pub give_rule : Known → Program → State
-give_rule m p =
-    a_line p is_any (λ c shape. token (codes ";") (token (codes "}") (items (with_data m (record { name = p.name; lines = p.lines; give = c })))))
-
--- a line's name, and its step
-abbrev pub name_turn : (Text → List Test) → Option Text → (Text → State) → Turn
-name_turn due None k = stops
-name_turn due (Some n) k = takes (due n) (k n)
-
-abbrev pub line_turn : Known → Program → Lexeme → Turn
-line_turn m p t =
-    name_turn (λ n. test Many t.at (nat_lt (length p.lines) 64) ∷ test Twice t.at (not (is_among (line_names p) n)) ∷ []) (name_in t.form)
-    (λ n. token (codes "=") (a_step m p (λ s shape. token (codes ";") (lines m (with_line p n s shape)))))
+-- behind the name of a line
+abbrev pub line_rest : Known → Program → Text → (Program → State) → State
+line_rest m p n k = token (codes "=") (a_step m p (λ r. token (codes ";") (k (with_line p n r.0 r.1))))
 
 abbrev pub one_arg : Program → Used → (Used → State) → State
-one_arg p u k = an_arg p (λ a. more_args p (record u { args = u.args ++ a ∷ [] }) k)
+one_arg p u k = an_arg p (λ a. more_args p (with_arg u a) k)
 
--- a number of the program, or an integer
-abbrev pub integer_turn : List Test → Form → (ℤ → State) → Turn
-integer_turn due (number v) k = takes due (k (pos v))
-integer_turn due (sign s) k = if bytes_eq s (codes "-") then takes due (a_number (λ v at. []) (λ v at. k (neg_ℤ (pos v)))) else stops
-integer_turn due _ k = stops
+-- a function, maybe with arguments
+abbrev pub a_use : Known → Program → (Used → State) → State
+a_use m p k = a_use_name m (λ u. maybe_args p u k)
 
-abbrev pub arg_turn : Option Text → Program → Lexeme → (Arg → State) → Turn
-arg_turn (Some n) p t k = takes (line_tests p is_one_number n t.at) (k (arg.Number (place (line_names p) n)))
-arg_turn None p t k = integer_turn [] t.form (λ z. k (arg.Lit z))
+-- ---- steps, behind their first word
+
+abbrev pub Step : Type 0
+Step = DataStep × Shape
+
+abbrev pub part_rule : ℕ → (Step → State) → State
+part_rule b k = a_number 0 1048576 (λ at. token (codes "len") (a_number 0 1048576 (λ len. k (step.ArrayAt b at len, shape.Array b))))
+
+abbrev pub array_rule : (Step → State) → State
+array_rule k = a_number 1 1024 (λ b. maybe_part b k)
+
+abbrev pub matrix_rule : (Step → State) → State
+matrix_rule k =
+    a_number 1 1048576 (λ r. a_size 1048576 r (λ c. token (codes "grid")
+    (a_number 1 1048576 (λ p. a_size 1024 p (λ q. token (codes "at")
+    (a_number 0 1048576 (λ at. k (step.Matrix r c p q at, shape.Matrix r c p q))))))))
+
+-- a function and the line that it works on
+abbrev pub with_one : Known → Program → Need → ℕ → ℕ → (UseSpec → ℕ → DataStep) → (Step → State) → State
+with_one m p needed for_array for_matrix make k =
+    a_use m p (λ u. a_container m p u needed for_array for_matrix (λ l. k (make (use_spec u) l.0, l.1)))
+
+-- a function and the two lines that it works on
+abbrev pub with_two : Known → Program → ℕ → ℕ → (UseSpec → ℕ → ℕ → DataStep) → (Step → State) → State
+with_two m p for_array for_matrix make k =
+    a_use m p (λ u. a_container m p u need.Container for_array for_matrix (λ l. a_line p (need.Like l.1) (λ o. k (make (use_spec u) l.0 o.0, l.1))))
+
+abbrev pub fold_rule : Program → (Step → State) → State
+fold_rule p k = an_operator (λ op. a_line p need.Container (λ l. k (step.Fold op l.0, shape.Number)))
+
+abbrev pub scan_rule : Program → (Step → State) → State
+scan_rule p k = an_operator (λ op. a_line p need.Array (λ l. k (step.Scan op l.0, l.1)))
+
+abbrev pub foldl_rule : Known → Program → (Step → State) → State
+foldl_rule m p k = a_use m p (λ u. an_arg p (λ first. a_container m p u need.Array 2 2 (λ l. k (step.Foldl (use_spec u) first l.0, shape.Number))))
+
+abbrev pub broadcast_rule : Program → (Step → State) → State
+broadcast_rule p k = a_placed_number (λ b. a_block_of p b (λ l. k (step.BroadcastPartition b.0 l.0, l.1)))
+
+abbrev pub transpose_rule : Program → (Step → State) → State
+transpose_rule p k = a_line p need.Matrix (λ l. k (step.Transpose l.0, turned l.1))
+
+-- what follows the first word of a step
+abbrev pub step_by : Form → Known → Program → (Step → State) → Turn
+step_by f m p k =
+    if says (codes "array") f then go (array_rule k)
+    else if says (codes "matrix") f then go (matrix_rule k)
+    else if says (codes "map") f then go (with_one m p need.Container 1 1 step.Map k)
+    else if says (codes "mapIndex") f then go (with_one m p need.Container 2 3 step.MapIndex k)
+    else if says (codes "zip") f then go (with_two m p 2 2 step.Zip k)
+    else if says (codes "zipIndex") f then go (with_two m p 3 4 step.ZipIndex k)
+    else if says (codes "fold") f then go (fold_rule p k)
+    else if says (codes "scan") f then go (scan_rule p k)
+    else if says (codes "foldl") f then go (foldl_rule m p k)
+    else if says (codes "permutePartition") f then go (with_one m p need.Array 1 1 step.PermutePartition k)
+    else if says (codes "permute") f then go (with_one m p need.Array 1 1 step.Permute k)
+    else if says (codes "broadcastPartition") f then go (broadcast_rule p k)
+    else if says (codes "rotateRows") f then go (with_one m p need.Matrix 1 1 step.RotateRows k)
+    else if says (codes "rotateCols") f then go (with_one m p need.Matrix 1 1 step.RotateCols k)
+    else if says (codes "transpose") f then go (transpose_rule p k)
+    else stops
+
+-- ---- operators
 
 abbrev pub with_modulus : Bool → OpKind → (Op → State) → State
-with_modulus true kind k = a_number (between 1 1000000000000000000) (λ v at. k (op_of kind v))
-with_modulus false kind k = k (op_of kind 1)
+with_modulus true o k = a_number 1 1000000000000000000 (λ v. k (op_of o v))
+with_modulus false o k = k (op_of o 1)
 
 abbrev pub operator_by : Option OpKind → ℕ → (Op → State) → Turn
-operator_by None at k = takes (test Unknown at false ∷ []) (k (op_of Sum 1))
-operator_by (Some kind) at k = go (with_modulus (has_modulus kind) kind k)
+operator_by None at k = takes (test kind.Unknown at false ∷ []) (k (op_of Sum 1))
+operator_by (Some o) at k = go (with_modulus (has_modulus o) o k)
 
 -- any word may name an operator
 abbrev pub operator_turn : Form → ℕ → (Op → State) → Turn
@@ -428,41 +265,56 @@ operator_turn _ at k = stops
 
 -- ---- stages
 
-abbrev pub few_primitives : Counts → ℕ → Test
-few_primitives c at = test Many at (nat_lt c.primitives 64)
+abbrev pub one_primitive : Counts → Counts
+one_primitive c = record c { primitives = c.primitives + 1 }
 
-abbrev pub on_members : Known → List Text → (ℕ → ℕ → Stage) → (Stage → State) → State
-on_members m names make k = a_name (of_kind m names) (λ n at. token (codes "on") (a_number (between 1 64) (λ v here. k (make (place names n) v))))
+abbrev pub one_filter : Counts → Counts
+one_filter c = record { primitives = c.primitives + 1; filters = c.filters + 1 }
 
 abbrev pub one_deeper : Nest → Nest
 one_deeper nest = record nest { opened = nest.opened + 1 }
 
 abbrev pub in_farm : Nest → Nest
-in_farm nest = record { opened = nest.opened + 1; farms = nest.farms + 1 }
+in_farm nest = record { opened = nest.opened + 1; in_farm = true }
+
+abbrev pub few_primitives : Counts → ℕ → Test
+few_primitives c at = test kind.Many at (nat_lt c.primitives 64)
 
 abbrev pub nest_test : Nest → ℕ → List Test
-nest_test nest at = test Deep at (nat_lt nest.opened 4) ∷ []
+nest_test nest at = test kind.Deep at (nat_lt nest.opened 4) ∷ []
 
-abbrev pub stage_turn : Known → Nest → Counts → Lexeme → (Counts → Stage → State) → Turn
+-- a definition and how many members work on it
+abbrev pub on_members : Known → List Text → (ℕ → ℕ → Stage) → (Stage → State) → State
+on_members m names make k = a_definition m names (λ d. token (codes "on") (a_number 1 64 (λ v. k (make d v))))
+
+abbrev pub atomic_rule : Known → (Stage → State) → State
+atomic_rule m k = a_function m Any Any (λ f. k (Atomic f))
+
+abbrev pub filter_stage_rule : Known → (Stage → State) → State
+filter_stage_rule m k = a_definition m (filter_names m) (λ f. k (Filter f))
+
+abbrev pub farm_rule : Known → Nest → Counts → (Counts × Stage → State) → State
+farm_rule m nest c k = a_number 1 64 (λ v. token (codes "{") (a_stage m (in_farm nest) c (λ r. token (codes "}") (k (r.0, farm v r.1)))))
+
+abbrev pub pipe_rule : Known → Nest → Counts → (Counts × Stage → State) → State
+pipe_rule m nest c k = token (codes "{") (a_stage m (one_deeper nest) c (λ r. more_stages m (one_deeper nest) r.0 (r.1 ∷ []) k))
+
+abbrev pub stage_turn : Known → Nest → Counts → Lexeme → (Counts × Stage → State) → Turn
 stage_turn m nest c t k =
-    if says (codes "atomic") t.form then
-    takes (few_primitives c t.at ∷ []) (a_name (of_kind m (names_of m.funs)) (λ n at. k (one_primitive c) (Atomic (fun_place m n))))
+    if says (codes "atomic") t.form then takes (few_primitives c t.at ∷ []) (atomic_rule m (λ s. k (one_primitive c, s)))
     else if says (codes "filter") t.form then
-    takes (test InFarm t.at (nest.farms == 0) ∷ few_primitives c t.at ∷ test Many t.at (nat_lt c.filters 4) ∷ [])
-    (a_name (of_kind m (filter_names m)) (λ n at. k (one_filter c) (Filter (place (filter_names m) n))))
-    else if says (codes "data") t.form then takes (few_primitives c t.at ∷ []) (on_members m (data_names m) Data (k (one_primitive c)))
-    else if says (codes "divcon") t.form then takes (few_primitives c t.at ∷ []) (on_members m (divcon_names m) DivCon (k (one_primitive c)))
-    else if says (codes "bnb") t.form then takes (few_primitives c t.at ∷ []) (on_members m (bnb_names m) Bnb (k (one_primitive c)))
-    else if says (codes "farm") t.form then
-    takes (nest_test nest t.at) (a_number (between 1 64) (λ v at. token (codes "{") (a_stage m (in_farm nest) c (λ c' s. token (codes "}") (k c' (farm v s))))))
-    else if says (codes "pipe") t.form then
-    takes (nest_test nest t.at) (token (codes "{") (a_stage m (one_deeper nest) c (λ c' s. more_stages m (one_deeper nest) c' (s ∷ []) k)))
+    takes (test kind.InFarm t.at (not nest.in_farm) ∷ few_primitives c t.at ∷ test kind.Many t.at (nat_lt c.filters 4) ∷ []) (filter_stage_rule m (λ s. k (one_filter c, s)))
+    else if says (codes "data") t.form then takes (few_primitives c t.at ∷ []) (on_members m (data_names m) Data (λ s. k (one_primitive c, s)))
+    else if says (codes "divcon") t.form then takes (few_primitives c t.at ∷ []) (on_members m (divcon_names m) DivCon (λ s. k (one_primitive c, s)))
+    else if says (codes "bnb") t.form then takes (few_primitives c t.at ∷ []) (on_members m (bnb_names m) Bnb (λ s. k (one_primitive c, s)))
+    else if says (codes "farm") t.form then takes (nest_test nest t.at) (farm_rule m nest c k)
+    else if says (codes "pipe") t.form then takes (nest_test nest t.at) (pipe_rule m nest c k)
     else stops
 
 -- ---- items
 
 abbrev pub few_items : ℕ → ℕ → List Test
-few_items n at = test Many at (nat_lt n 64) ∷ []
+few_items n at = test kind.Many at (nat_lt n 64) ∷ []
 
 -- a turn of a function, in a script
 abbrev pub of_fun : Known → Move fun_grammar.State Fun → (Fun → State) → (Fun → Turn) → Turn
@@ -473,24 +325,64 @@ of_fun m stops k behind = stops
 abbrev pub script_of : Known → Stage → Script
 script_of m main = record { version = 1; funs = m.funs; datas = m.datas; filters = m.filters; divcons = m.divcons; bnbs = m.bnbs; order = m.order; main = main }
 
+abbrev pub outermost : Nest
+outermost = record { opened = 0; in_farm = false }
+
+abbrev pub no_stages : Counts
+no_stages = record { primitives = 0; filters = 0 }
+
 abbrev pub main_rule : Known → State
-main_rule m = token (codes "=") (a_stage m (record { opened = 0; farms = 0 }) (record { primitives = 0; filters = 0 }) (λ c s. token (codes ";") (finish (script_of m s))))
+main_rule m = token (codes "=") (a_stage m outermost no_stages (λ r. token (codes ";") (finish (script_of m r.1))))
 
 abbrev pub items_turn : Known → Lexeme → Lexeme → Turn
 items_turn m t behind =
-    if says (codes "fun") t.form then of_fun m (fun_grammar.on m.funs (others m) fun_grammar.fun t behind) (λ f. items (with_fun m f)) (λ f. stops)
-    else if says (codes "data") t.form then takes (few_items (length m.datas) t.at) (data_rule m)
-    else if says (codes "filter") t.form then takes (few_items (length m.filters) t.at) (filter_rule m)
-    else if says (codes "divcon") t.form then takes (few_items (length m.divcons) t.at) (divcon_rule m)
-    else if says (codes "bnb") t.form then takes (few_items (length m.bnbs) t.at) (bnb_rule m)
+    if says (codes "fun") t.form then of_fun m (fun_grammar.on m.funs m.others fun_grammar.fun t behind) (λ f. items (with_fun m f)) (λ f. stops)
+    else if says (codes "data") t.form then takes (few_items (length m.datas) t.at) (data_rule m (λ d. items (with_data m d)))
+    else if says (codes "filter") t.form then takes (few_items (length m.filters) t.at) (filter_rule m (λ f. items (with_filter m f)))
+    else if says (codes "divcon") t.form then takes (few_items (length m.divcons) t.at) (divcon_rule m (λ d. items (with_divcon m d)))
+    else if says (codes "bnb") t.form then takes (few_items (length m.bnbs) t.at) (bnb_rule m (λ b. items (with_bnb m b)))
     else if says (codes "main") t.form then go (main_rule m)
     else stops
 
 -- ---- the turns
 
-abbrev pub number_turn : (ℕ → ℕ → List Test) → Lexeme → Form → (ℕ → ℕ → State) → Turn
-number_turn due t (number v) k = takes (due v t.at) (k v t.at)
-number_turn due t _ k = stops
+-- a name under tests
+abbrev pub name_turn : (Text → List Test) → Option Text → (Text → State) → Turn
+name_turn due None k = stops
+name_turn due (Some n) k = takes (due n) (k n)
+
+-- a number under tests
+abbrev pub number_turn : (ℕ → List Test) → Form → (ℕ → State) → Turn
+number_turn due (number v) k = takes (due v) (k v)
+number_turn due _ k = stops
+
+-- an integer, with tests at its first token
+abbrev pub integer_turn : List Test → Form → (ℤ → State) → Turn
+integer_turn due f k = if says (codes "-") f then takes due (a_natural (λ v. k (neg_ℤ (pos v)))) else number_turn (λ v. due) f (λ v. k (pos v))
+
+abbrev pub is_between : ℕ → ℕ → ℕ → Bool
+is_between low high v = nat_le low v && nat_le v high
+
+-- a definition of one kind
+abbrev pub of_kind : Known → List Text → ℕ → Text → List Test
+of_kind m names at n = test kind.Unknown at (is_declared m n) ∷ test kind.WrongKind at (is_among names n) ∷ []
+
+abbrev pub fun_place : Known → Text → ℕ
+fun_place m n = place (names_of m.funs) n
+
+abbrev pub function_tests : Known → Width → Width → ℕ → Text → List Test
+function_tests m params results at n =
+    of_kind m (names_of m.funs) at n ++ test kind.Width at (allows params (params_of m (fun_place m n)) && allows results (results_of m (fun_place m n))) ∷ []
+
+abbrev pub line_tests : Program → Need → ℕ → Text → List Test
+line_tests p needed at n = test kind.Unknown at (is_among (line_names p) n) ∷ test kind.WrongKind at (suits needed (shape_of p n)) ∷ []
+
+abbrev pub line_found : Program → Text → ℕ × Shape
+line_found p n = (place (line_names p) n, shape_of p n)
+
+abbrev pub arg_turn : Option Text → Program → Lexeme → (Arg → State) → Turn
+arg_turn (Some n) p t k = takes (line_tests p need.Number t.at n) (k (arg.Number (place (line_names p) n)))
+arg_turn None p t k = integer_turn [] t.form (λ z. k (arg.Lit z))
 
 abbrev pub close_turn : Form → Script → Turn
 close_turn close s = ends s
@@ -498,37 +390,56 @@ close_turn _ s = stops
 
 abbrev pub on : State → Lexeme → Lexeme → Turn
 on (token text s) t behind = if says text t.form then go s else stops
-on (a_name due k) t behind = name_turn (λ n. due n t.at) (name_in t.form) (λ n. k n t.at)
-on (a_number due k) t behind = number_turn due t t.form k
-on (an_integer due k) t behind = integer_turn (due t.at) t.form k
-on (a_fun m x k) t behind = of_fun m (fun_grammar.on m.funs (others m) x t behind) k (λ f. on (k f) t behind)
+on (version s) t behind = number_turn (λ v. test kind.Version t.at (v == 1) ∷ []) t.form (λ v. s)
+on (a_fun m x k) t behind = of_fun m (fun_grammar.on m.funs m.others x t behind) k (λ f. on (k f) t behind)
+on (fresh m k) t behind = name_turn (λ n. test kind.Twice t.at (not (is_declared m n)) ∷ []) (name_in t.form) k
+on (a_function m params results k) t behind = name_turn (function_tests m params results t.at) (name_in t.form) (λ n. k (fun_place m n))
+on (a_definition m names k) t behind = name_turn (of_kind m names t.at) (name_in t.form) (λ n. k (place names n))
+on (a_number low high k) t behind = number_turn (λ v. test kind.Range t.at (is_between low high v) ∷ []) t.form k
+on (a_natural k) t behind = number_turn (λ v. []) t.form k
+on (a_placed_number k) t behind = number_turn (λ v. []) t.form (λ v. k (v, t.at))
+on (an_integer k) t behind = integer_turn [] t.form k
 on (items m) t behind = items_turn m t behind
-on (more_integers zs k) t behind =
-    if says (codes ",") t.form then go (an_integer (λ at. test Many at (nat_lt (length zs) 8) ∷ []) (λ z. more_integers (zs ++ z ∷ []) k))
+on (a_state_number zs k) t behind = integer_turn (test kind.Many t.at (nat_lt (length zs) 8) ∷ []) t.form k
+on (more_state_numbers zs k) t behind =
+    if says (codes ",") t.form then go (a_state_number zs (λ z. more_state_numbers (zs ++ z ∷ []) k))
     else if says (codes ";") t.form then go (k zs)
     else stops
-on (lines m p) t behind = if says (codes "give") t.form then go (give_rule m p) else line_turn m p t
+on (lines m p k) t behind =
+    if says (codes "give") t.form then go (give_rule p k)
+    else
+    name_turn (λ n. test kind.Many t.at (nat_lt (length p.lines) 64) ∷ test kind.Twice t.at (not (is_among (line_names p) n)) ∷ []) (name_in t.form)
+    (λ n. line_rest m p n (λ q. lines m q k))
 on (a_step m p k) t behind = step_by t.form m p k
-on (maybe_part b k) t behind = if says (codes "at") t.form then go (part_rule b k) else on (k (step.Array b) (array b)) t behind
+on (maybe_part b k) t behind = if says (codes "at") t.form then go (part_rule b k) else on (k (step.Array b, shape.Array b)) t behind
+on (a_size most before k) t behind = number_turn (λ v. test kind.Range t.at (is_between 1 1048576 v && nat_le (before * v) most) ∷ []) t.form k
+on (a_use_name m k) t behind = name_turn (of_kind m (names_of m.funs) t.at) (name_in t.form) (λ n. k (used (fun_place m n) t.at))
 on (maybe_args p u k) t behind = if says (codes "(") t.form then go (one_arg p u k) else on (k u) t behind
 on (more_args p u k) t behind =
     if says (codes ",") t.form then go (one_arg p u k) else if says (codes ")") t.form then go (k u) else stops
 on (an_arg p k) t behind = arg_turn (name_in t.form) p t k
+on (a_line p needed k) t behind = name_turn (line_tests p needed t.at) (name_in t.form) (λ n. k (line_found p n))
+on (a_container m p u needed for_array for_matrix k) t behind =
+    name_turn (λ n. line_tests p needed t.at n ++ test kind.Width u.at (use_fits m u (given for_array for_matrix (shape_of p n))) ∷ []) (name_in t.form)
+    (λ n. k (line_found p n))
+on (a_block_of p b k) t behind =
+    name_turn (λ n. line_tests p need.Array t.at n ++ test kind.Range b.1 (nat_lt b.0 (blocks_of (shape_of p n))) ∷ []) (name_in t.form) (λ n. k (line_found p n))
 on (an_operator k) t behind = operator_turn t.form t.at k
 on (a_stage m nest c k) t behind = stage_turn m nest c t k
 on (more_stages m nest c ss k) t behind =
-    if says (codes ";") t.form then go (a_stage m nest c (λ c' s. more_stages m nest c' (ss ++ s ∷ []) k))
-    else if says (codes "}") t.form then go (k c (pipe ss))
+    if says (codes ";") t.form then go (a_stage m nest c (λ r. more_stages m nest r.0 (ss ++ r.1 ∷ []) k))
+    else if says (codes "}") t.form then go (k (c, pipe ss))
     else stops
 on (finish s) t behind = close_turn t.form s
 
 -- ---- a script
 
+-- what these tokens are read as from a state on
 abbrev pub reading : List Lexeme → State → Result (Script × List Lexeme) Refusal
 reading ts s = read State Script on ts s
 
 abbrev pub script_rule : State
-script_rule = token (codes "muesli") (a_number (λ v at. test Version at (v == 1) ∷ []) (λ v at. token (codes ";") (items nothing_known)))
+script_rule = token (codes "muesli") (version (token (codes ";") (items nothing_known)))
 
 abbrev pub whole : Result (Script × List Lexeme) Refusal → Result Script Refusal
 whole (Ok r) = Ok r.0
@@ -536,10 +447,10 @@ whole (Err e) = Err e
 
 abbrev pub of_tokens : Result (List Lexeme) LexFault → Result Script Refusal
 of_tokens (Ok ts) = whole (reading ts script_rule)
-of_tokens (Err (fault.Byte at)) = Err (Byte, at)
-of_tokens (Err (fault.LongName at)) = Err (LongName, at)
-of_tokens (Err (fault.Number at)) = Err (Number, at)
-of_tokens (Err fault.NoMemory) = Err (Byte, 0)
+of_tokens (Err (fault.Byte at)) = Err (kind.Byte, at)
+of_tokens (Err (fault.LongName at)) = Err (kind.LongName, at)
+of_tokens (Err (fault.Number at)) = Err (kind.Number, at)
+of_tokens (Err fault.NoMemory) = Err (kind.Byte, 0)
 
 -- the script that a text reads as, or its first refusal
 abbrev pub script_of_text : List ℕ → Result Script Refusal

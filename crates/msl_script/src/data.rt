@@ -22,18 +22,19 @@ pub struct UseSpec {
 }
 
 /// How a line of a data program gets its value. Numbers that aren't said to be something else are places of
-/// earlier lines.
+/// earlier lines. Arrays lie in 1 to 1,024 blocks.
 #[derive(Debug, Drop)]
 pub enum DataStep {
     /// The whole record, in so many blocks.
     Array(u32),
-    /// So many numbers of the record from a place on.
+    /// So many numbers of the record from a place on, each at most 1,048,576.
     ArrayAt {
         blocks: u32,
         at: u32,
         len: u32,
     },
-    /// A matrix of the record's numbers from a place on, row by row, in a grid of blocks.
+    /// A matrix of the record's numbers from a place on, which is at most 1,048,576, row by row, in a grid of blocks.
+    /// It has 1 to 1,048,576 numbers in 1 to 1,024 blocks.
     Matrix {
         rows: u32,
         cols: u32,

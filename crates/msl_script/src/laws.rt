@@ -1,19 +1,31 @@
-//! Worked examples of what texts are read as, and of what scripts make of streams. Each function here is empty, and
-//! its contract is the examples.
+//! Worked examples of what texts are read as, of what scripts make of streams, and of how many processes they need.
+//! Each function here is empty, and its contract is the examples.
 
-ghost use Rattle.std.specs.Prelude.{◌≡◌, pos, negsuc, [], ◌∷◌, ◌++◌, codes, take, Ok, Err};
+ghost use Rattle.std.specs.Prelude.{◌≡◌, pos, negsuc, [], ◌∷◌, ◌++◌, codes, take, Some, Ok, Err};
 ghost use Rattle.msl_lex.specs.declared.kind.Kind.TheVariants.{Expected, Version, InFarm, Unknown, Width, Number};
-ghost use Rattle.msl_script.specs.ScriptGrammar.{script_of_text};
+ghost use Rattle.msl_muscle.specs.Reading.{Refusal};
+ghost use Rattle.msl_script.specs.Script.{Script};
+ghost use Rattle.msl_script.specs.ScriptGrammar.{ReadsAs, script_of_text};
+ghost use Rattle.msl_script.specs.ScriptReading.{HasReading, IsRefusedAs};
 ghost use Rattle.msl_base.specs.Streams.{stream, done, failed};
 ghost use Rattle.msl_base.specs.declared.fault.Fault.TheVariants.{Ragged, Overflow, BoundBroken};
-ghost use Rattle.msl_script.specs.Meanings.{made_by, totals, moved, deviations, turned, squares_in_turn, range, pick, broken, pairs};
+ghost use Rattle.msl_script.specs.Meanings.{made_by, needed_by, totals, moved, deviations, turned, squares_in_turn, range, picking, pick, broken, pairs, mixed};
+ghost use Rattle.msl_script.specs.Constructs.{every, every_text};
 ghost use Rattle.msl_script.specs.Rows.{head, squares_text, squares, sums_text, sums};
+
+/// A text is a script or is refused, and never both; it is one script at most.
+pub fn one_reading(text: &[u8])
+    ensures some { HasReading text.now }
+    ensures apart { (s : Script) (r : Refusal) → ReadsAs text.now s → IsRefusedAs text.now r → ⊥ }
+    ensures one { (s t : Script) → ReadsAs text.now s → ReadsAs text.now t → s ≡ t }
+{}
 
 /// Texts that are scripts.
 pub fn scripts()
     ensures squares { script_of_text squares_text ≡ Ok squares }
     ensures last_line_cut { script_of_text (take 46 squares_text) ≡ Ok squares }
     ensures sums { script_of_text sums_text ≡ Ok sums }
+    ensures every { script_of_text every_text ≡ Ok every }
 {}
 
 /// Texts that are refused, with the first refusal and its place.
@@ -44,4 +56,12 @@ pub fn meanings()
     ensures filtered { made_by pairs ((pos 1 ∷ []) ∷ (pos 2 ∷ []) ∷ (pos 3 ∷ []) ∷ []) ≡ stream ((pos 1 ∷ pos 2 ∷ []) ∷ (pos 3 ∷ []) ∷ []) done }
     ensures broken { made_by broken ((pos 0 ∷ []) ∷ []) ≡ stream [] (failed (BoundBroken 1 (0 ∷ []))) }
     ensures searched { made_by pick ((pos 0 ∷ pos 0 ∷ pos 0 ∷ pos 7 ∷ []) ∷ []) ≡ stream ((pos 9 ∷ pos 3 ∷ pos 9 ∷ pos 7 ∷ pos 7 ∷ []) ∷ []) done }
+{}
+
+/// How many processes scripts need.
+pub fn needs()
+    ensures square { needed_by squares_text ≡ Some 2 }
+    ensures farm { needed_by (head ++ codes "main = farm 3 { atomic sq };\n") ≡ Some 4 }
+    ensures pipe { needed_by mixed ≡ Some 4 }
+    ensures search { needed_by (picking ++ codes "main = farm 2 { bnb pick on 3 };\n") ≡ Some 7 }
 {}

@@ -1,10 +1,15 @@
+ghost use Rattle.std.specs.Prelude.{◌≡◌};
+ghost use Rattle.msl_script.specs.Fitting.{IsWhole};
+ghost use Rattle.msl_script.specs.ScriptPromise.{IsMain, IsScript};
+
 use crate::data::DataProgs;
 use crate::stage::Stage;
 use msl_base::{Name, Small};
 use msl_muscle::Funs;
 use sqlite_items::Items;
+use std::marker::Model;
 
-/// A filter: the numbers of its first state, and its functions by their places.
+/// A filter: the 1 to 8 numbers of its first state, and its functions by their places among the functions.
 #[derive(Debug, Drop)]
 pub struct FilterSpec {
     pub name: Name,
@@ -19,7 +24,8 @@ pub struct FilterSpec {
 /// Filters in the order of their definition.
 pub type FilterSpecs = Items<FilterSpec>;
 
-/// A division: into how many parts, below which depth a pool splits, and its functions by their places.
+/// A division: into how many parts, 2 to 16; up to which depth, 0 to 64, parts may be given to other members, which
+/// changes no value; and its functions by their places among the functions.
 #[derive(Debug, Drop)]
 pub struct DivCon {
     pub name: Name,
@@ -34,7 +40,7 @@ pub struct DivCon {
 /// Divisions in the order of their definition.
 pub type DivCons = Items<DivCon>;
 
-/// A search: its functions by their places.
+/// A search: its functions by their places among the functions.
 #[derive(Debug, Drop)]
 pub struct BnbSpec {
     pub name: Name,
@@ -51,26 +57,109 @@ pub type BnbSpecs = Items<BnbSpec>;
 /// What an item of a script defines.
 #[derive(Clone, Copy, Debug, PartialEq, Eq)]
 pub enum ItemKind {
+    /// A function.
     Fun,
+    /// A data program.
     Data,
+    /// A filter.
     Filter,
+    /// A division.
     DivCon,
+    /// A search.
     Bnb,
 }
 
 /// The kinds of a script's items, in the order of the text.
 pub type ItemKinds = Items<ItemKind>;
 
-/// A script: its version, its definitions by their kinds, the order in which they stand, and the stage that a stream
-/// goes through.
+/// A script, which keeps all rules of the language: its definitions by their kinds, the order in which they stand, and
+/// the stage that a stream goes through.
 #[derive(Debug, Drop)]
 pub struct Script {
-    pub version: u32,
-    pub funs: Funs,
-    pub datas: DataProgs,
-    pub filters: FilterSpecs,
-    pub divcons: DivCons,
-    pub bnbs: BnbSpecs,
-    pub order: ItemKinds,
-    pub main: Stage,
+    pub(crate) version: u32,
+    pub(crate) funs: Funs,
+    pub(crate) datas: DataProgs,
+    pub(crate) filters: FilterSpecs,
+    pub(crate) divcons: DivCons,
+    pub(crate) bnbs: BnbSpecs,
+    pub(crate) order: ItemKinds,
+    pub(crate) main: Stage,
+}
+
+impl Model for Script {
+    ghost use Rattle.std.specs.Coded.{codes};
+    ghost use Rattle.msl_muscle.specs.contracts.expr.Expr as e;
+    ghost use Rattle.msl_script.specs.contracts.stage.Stage as st;
+    ghost use Rattle.msl_script.specs.Script as parts;
+
+    ghost Value = { parts.Script };
+
+    ghost coded = { Prim.hlevel (codes, e.the_row.coded, st.the_row.coded) };
+
+    ghost use Rattle.msl_script.specs.ScriptPromise.{IsScript};
+
+    ghost view = { λ s. record { version = s.version; funs = s.funs; datas = s.datas; filters = s.filters; divcons = s.divcons; bnbs = s.bnbs; order = s.order; main = s.main } };
+
+    ghost invariant = { λ s. IsScript (record { version = s.version; funs = s.funs; datas = s.datas; filters = s.filters; divcons = s.divcons; bnbs = s.bnbs; order = s.order; main = s.main }) };
+}
+
+impl Script {
+    /// The version of the language, which is 1.
+    pub fn version(&self) -> u32
+        ensures version { result ≡ self.now.version }
+        ensures promise { IsScript self.now }
+    {
+        self.version
+    }
+
+    /// The functions, in order.
+    pub fn funs(&self) -> &Funs
+        ensures { result.now ≡ self.now.funs }
+    {
+        &self.funs
+    }
+
+    /// The data programs, in order.
+    pub fn datas(&self) -> &DataProgs
+        ensures { result.now ≡ self.now.datas }
+    {
+        &self.datas
+    }
+
+    /// The filters, in order.
+    pub fn filters(&self) -> &FilterSpecs
+        ensures { result.now ≡ self.now.filters }
+    {
+        &self.filters
+    }
+
+    /// The divisions, in order.
+    pub fn divcons(&self) -> &DivCons
+        ensures { result.now ≡ self.now.divcons }
+    {
+        &self.divcons
+    }
+
+    /// The searches, in order.
+    pub fn bnbs(&self) -> &BnbSpecs
+        ensures { result.now ≡ self.now.bnbs }
+    {
+        &self.bnbs
+    }
+
+    /// The kinds of all definitions, as they stand in the text.
+    pub fn order(&self) -> &ItemKinds
+        ensures { result.now ≡ self.now.order }
+    {
+        &self.order
+    }
+
+    /// The stage that a stream goes through. It names only what is there, and keeps the limits of the language.
+    pub fn main(&self) -> &Stage
+        ensures main { result.now ≡ self.now.main }
+        ensures whole { IsWhole self.now }
+        ensures bounded { IsMain self.now.main }
+    {
+        &self.main
+    }
 }

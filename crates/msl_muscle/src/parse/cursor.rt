@@ -7,12 +7,13 @@ ghost use Rattle.msl_lex.specs.Layout.{is_word};
 ghost use Rattle.msl_lex.specs.Lexemes.{word, close, lexeme_of, longest_name, greatest_number};
 ghost use Rattle.msl_lex.specs.Places.{LiesWithin};
 ghost use Rattle.msl_lex.specs.declared.kind.Kind.TheVariants.{Expected};
+ghost use Rattle.msl_lex.specs.declared.token.TokenKind.TheVariants as token_kind;
 ghost use Rattle.msl_muscle.specs.declared.parse.fault.ParseFault.TheVariants as fault;
 ghost use Rattle.msl_muscle.specs.Checks.{is_name};
 ghost use Rattle.msl_muscle.specs.Reading.{place, says};
 ghost use Rattle.msl_muscle.specs.Front.{AreOpen, form, form_behind, IsNumber};
 ghost use Rattle.msl_muscle.specs.Grammar.{first_in, other_first, name_in, number_in};
-ghost use Rattle.msl_muscle.specs.Kinds.{kind_of};
+ghost use Rattle.msl_muscle.specs.Kinds.{is_close, kind_of};
 
 use crate::BinOp;
 use crate::parse::fault::ParseFault;
@@ -49,6 +50,16 @@ impl<'a> Cursor<'a> {
         Cursor { text, rest }
     }
 
+    /// The same tokens, to be read once more.
+    pub fn again(&self) -> Cursor<'a>
+        ensures { result ≡ self.now }
+    {
+        Cursor {
+            text: self.text,
+            rest: self.rest,
+        }
+    }
+
     /// How many tokens are left.
     pub fn len(&self) -> usize
         ensures len { result ≡ length self.now }
@@ -69,6 +80,14 @@ impl<'a> Cursor<'a> {
         ensures { result ≡ kind_of (form self.now) }
     {
         self.rest[0].kind
+    }
+
+    /// Whether nothing but the end of the text is left.
+    pub fn is_over(&self) -> bool
+        ensures over { result ≡ is_close (form self.now) }
+        ensures some { 1 ≤ length self.now }
+    {
+        matches!(self.rest[0].kind, TokenKind::Close)
     }
 
     /// Whether the first token is this quoted text, a word or a sign.
@@ -173,6 +192,17 @@ impl<'a> Cursor<'a> {
         let t = self.rest[0];
         match t.kind {
             TokenKind::Word => unreserved(spelling(self.text, t)),
+            TokenKind::Number | TokenKind::Sign | TokenKind::Close => None,
+        }
+    }
+
+    /// The text of the first token, where it is a word.
+    pub fn word(&self) -> Option<&'a str>
+        ensures { MatchOption result (kind_of (form self.now) ≢ token_kind.Word) (λ w. form self.now ≡ word w.now) }
+    {
+        let t = self.rest[0];
+        match t.kind {
+            TokenKind::Word => Some(word_text(spelling(self.text, t))),
             TokenKind::Number | TokenKind::Sign | TokenKind::Close => None,
         }
     }

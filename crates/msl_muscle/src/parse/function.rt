@@ -165,8 +165,8 @@ impl Declared<'_> {
         Ok(name)
     }
 
-    // The function at the front of these tokens, and how many are left behind it.
-    pub fn fun(&self, cursor: Cursor<'_>) -> Result<(Fun, usize), ParseFault>
+    // The function at the front of these tokens, and the tokens behind it.
+    pub fn fun<'c>(&self, cursor: Cursor<'c>) -> Result<(Fun, Cursor<'c>), ParseFault>
         ensures { MatchResult result (λ r. ReadsFun self.now.funs.now self.now.others.now cursor.entry r.0 r.1) (IsRefused (read_fun self.now.funs.now self.now.others.now cursor.entry)) }
     {
         let mut d = Draft {
@@ -188,6 +188,8 @@ impl Declared<'_> {
             results,
             names,
         };
-        Ok((fun, cursor.len()))
+        // The last token is never taken.
+        prove!(cursor.len() > 0);
+        Ok((fun, cursor))
     }
 }

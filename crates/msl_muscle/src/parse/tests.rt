@@ -1,4 +1,4 @@
-use crate::{Funs, ParseFault, parse_fun, parse_fun_among};
+use crate::{Cursor, Funs, ParseFault, parse_fun, parse_fun_at};
 use msl_base::Name;
 use msl_lex::{Kind, LexFault, lex};
 use std::alloc::Global;
@@ -243,7 +243,12 @@ fn beside_d(alloc: Global, text: &[u8]) -> Result<ParseFault, Fail> {
     if toks.as_slice().is_empty() {
         return Ok(ParseFault::NoMemory);
     }
-    match parse_fun_among(alloc, text, &toks, 0, &Funs::new(alloc), &others) {
+    match parse_fun_at(
+        alloc,
+        Cursor::new(text, toks.as_slice()),
+        &Funs::new(alloc),
+        &others,
+    ) {
         Ok(_) => Ok(ParseFault::NoMemory),
         Err(fault) => Ok(fault),
     }

@@ -1,7 +1,13 @@
-use Rattle.msl_run.proofs.Scripts.{long_runs}
-use Rattle.msl_run.specs.TopCall.{ends}
+use Rattle.std.proofs.Common.{refl}
+use Rattle.msl_run.specs.TopCall.{RunsText, ends}
+use Rattle.msl_run.proofs.Scripts.{runs_none, runs_text, with_script, without_script}
 use Rattle.msl_run.proofs.run.run_file.Goals as goal
 
-pub returns-in-Long-clause-ran : goal.returns-in-Long-clause-ran
-returns-in-Long-clause-ran g c =
-    long_runs (g.L.Library.file c.args.lib.now c.args.name.now) (ends (g.S.Source.left c.args.src.now) (g.S.Source.left c.args.src.now) (g.K.Sink.held c.args.out.now) (g.K.Sink.held c.args.out.now)) c.in-Long.ensures.file
+pub returns-in-Ok-clause-ran : goal.returns-in-Ok-clause-ran
+returns-in-Ok-clause-ran g c =
+    let after = (ends (g.S.Source.left c.args.src.now) (g.S.Source.left c.run_script.new.src) (g.K.Sink.held c.args.out.now) (g.K.Sink.held c.run_script.new.out)) in
+    with_script RunsText (g.L.Library.file c.args.lib.now c.args.name.now) c.in-Ok.script after c.run_script.result c.in-Ok.ensures.script (λ text is. runs_text text after c.in-Ok.script is c.run_script.result c.run_script.ensures.ran)
+
+pub returns-in-Err-clause-ran : goal.returns-in-Err-clause-ran
+returns-in-Err-clause-ran g c =
+    without_script RunsText runs_none (g.L.Library.file c.args.lib.now c.args.name.now) (ends (g.S.Source.left c.args.src.now) (g.S.Source.left c.args.src.now) (g.K.Sink.held c.args.out.now) (g.K.Sink.held c.args.out.now)) c.in-Err.status c.in-Err.ensures.refusal c.in-Err.ensures.script (refl, refl)

@@ -3,7 +3,7 @@ use Rattle.msl_base.specs.Streams.{Record, Outcome}
 use Rattle.msl_io.specs.Known.{Told}
 use Rattle.msl_io.specs.Reader.{Reader, Reads, Counts, ReadCause, MayGoOn, stop_of}
 use Rattle.msl_io.specs.declared.lines.Line.{Line}
-use Rattle.msl_run.specs.Stages.{atomic_outcome}
+use Rattle.msl_script.specs.Calls.{atomic_outcome}
 use Rattle.msl_run.specs.Steps.{StandsAt}
 use Rattle.msl_run.specs.declared.status.Status.TheVariants.{Memory}
 use Rattle.msl_run.proofs.Endings.{told_ends, gave, told_fault, told_write_part, told_next, told_from, told_memory, keeps_same, keeps_chain, is_ending, ends_cause}

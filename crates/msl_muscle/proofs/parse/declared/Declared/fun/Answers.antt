@@ -1,6 +1,7 @@
 use Rattle.std.proofs.Common.{sym, subst, ◌∙◌, arith}
 use Rattle.std.proofs.lemmas.Result.{err_from_is_err_and}
 use Rattle.msl_muscle.specs.Parsing.{IsRefused}
+use Rattle.msl_muscle.proofs.Suffixes.{some_read}
 use Rattle.msl_muscle.proofs.Wholes.{whole_follows, whole_read}
 use Rattle.msl_muscle.proofs.parse.declared.Declared.fun.Goals as goal
 
@@ -23,10 +24,9 @@ returns c =
     let others = c.args.self.now.others.now in
     let h = c.in_ok-name.field-0 in
     let es = c.in_ok-results.results in
+    let read = whole_read funs others _ c.head.new.d c.body.new.d c.end.new.d h c.in_ok-trees.trees es c.in_ok-name.ensures c.in_ok-trees.ensures c.in_ok-results.ensures (omega (arith, c.len.ensures.len, c.len.ensures.some)) in
     record {
-      rest = c.end.new.d.cursor;
-      read = whole_read funs others _ c.head.new.d c.body.new.d c.end.new.d h c.in_ok-trees.trees es c.in_ok-name.ensures c.in_ok-trees.ensures c.in_ok-results.ensures (omega (arith, c.len.ensures.len, c.len.ensures.some));
-      is_left = sym c.len.ensures.len;
-      some = c.len.ensures.some;
+      read = read;
+      shorter = some_read funs others c.args.cursor _ c.end.new.d.cursor read;
       rules = whole_follows funs others _ c.head.new.d c.body.new.d c.end.new.d h c.in_ok-trees.trees es c.in_ok-name.ensures c.in_ok-trees.ensures c.in_ok-results.ensures;
     }

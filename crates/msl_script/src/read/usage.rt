@@ -1,0 +1,85 @@
+// A function that a step uses, with its arguments.
+
+ghost use Rattle.std.specs.Prelude.{◌≡◌, ◌<◌, ◌≤◌, length, IfOk};
+ghost use Rattle.msl_script.specs.Following.{IsRead};
+ghost use Rattle.msl_script.specs.ScriptGrammar.{a_use, a_use_name, maybe_args, one_arg, an_arg};
+
+use crate::data::{Arg, Args};
+use crate::read::known::fun_named;
+use crate::read::program::Used;
+use crate::read::scope::Scope;
+use crate::read::shape::Need;
+use crate::read::token::{integer, quoted};
+use msl_muscle::{Cursor, ParseFault};
+
+impl Scope<'_> {
+    // A function, maybe with arguments.
+    pub fn usage(&self, c: &mut Cursor<'_>) -> Result<Used, ParseFault>
+        ensures read { IsRead c.old (a_use self.now.known.now self.now.program.now) c.new result }
+        ensures within { IfOk result (λ u. u.fun < length self.now.known.now.funs) }
+        ensures shorter { length c.new ≤ length c.old }
+    {
+        let used = self.use_name(c)?;
+        self.maybe_args(c, used)
+    }
+
+    // The name of a function.
+    fn use_name(&self, c: &mut Cursor<'_>) -> Result<Used, ParseFault>
+        ensures read { IsRead c.old (a_use_name self.now.known.now) c.new result }
+        ensures within { IfOk result (λ u. u.fun < length self.now.known.now.funs) }
+        ensures shorter { length c.new ≤ length c.old }
+    {
+        let Some(name) = c.name() else {
+            return Err(c.unexpected());
+        };
+        let Some(fun) = fun_named(&self.known.funs, name) else {
+            return Err(c.refusal(self.known.unknown(name)));
+        };
+        let at = c.place();
+        c.advance();
+        Ok(Used {
+            fun,
+            at,
+            args: Args::new(self.alloc),
+        })
+    }
+
+    fn maybe_args(&self, c: &mut Cursor<'_>, used: Used) -> Result<Used, ParseFault>
+        ensures read { IsRead c.old (maybe_args self.now.program.now used) c.new result }
+        ensures fun { IfOk result (λ u. u.fun ≡ used.fun) }
+        ensures shorter { length c.new ≤ length c.old }
+    {
+        if c.take("(") {
+            self.args(c, used)
+        } else {
+            Ok(used)
+        }
+    }
+
+    // Arguments up to a parenthesis.
+    fn args(&self, c: &mut Cursor<'_>, used: Used) -> Result<Used, ParseFault>
+        ensures read { IsRead c.old (one_arg self.now.program.now used) c.new result }
+        ensures fun { IfOk result (λ u. u.fun ≡ used.fun) }
+        ensures shorter { length c.new ≤ length c.old }
+    {
+        let mut more = used.with(self.arg(c)?)?;
+        while c.take(",") {
+            more = more.with(self.arg(c)?)?;
+        }
+        quoted(c, ")")?;
+        Ok(more)
+    }
+
+    // A line that is a number, or an integer.
+    pub fn arg(&self, c: &mut Cursor<'_>) -> Result<Arg, ParseFault>
+        ensures read { IsRead c.old (an_arg self.now.program.now) c.new result }
+        ensures shorter { length c.new ≤ length c.old }
+    {
+        let Some(name) = c.name() else {
+            return Ok(Arg::Lit(integer(c)?));
+        };
+        let line = self.suited(c, name, Need::Number)?.0;
+        c.advance();
+        Ok(Arg::Number(line))
+    }
+}
