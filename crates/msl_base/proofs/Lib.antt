@@ -1,2 +1,5 @@
 pub mod Filling
+pub mod Lists
 pub mod StreamLaws
+pub mod Names
+pub mod Tiles

@@ -4,3 +4,5 @@ pub mod Smalls
 pub mod Records
 pub mod Streams
 pub mod Examples
+pub mod Names
+pub mod Blocks

@@ -1,7 +1,7 @@
 use crate::{Fault, NoMemory, Rec};
 
 /// What becomes of one record.
-#[derive(Debug, Drop)]
+#[derive(Drop)]
 pub enum Answer {
     /// The record that it gives.
     Rec(Rec),
@@ -12,7 +12,7 @@ pub enum Answer {
 }
 
 /// Why a computation over a record stops without a result.
-#[derive(Clone, Copy, Debug)]
+#[derive(Clone, Copy)]
 pub enum Halt {
     /// The computation has no result.
     Fault(Fault),

@@ -2,7 +2,7 @@ use crate::Path;
 
 /// Why a stream ends before its end. A line's number and a stage's number count from 1; a path leads from the
 /// root of a division or a search to the node that faults.
-#[derive(Clone, Copy, Debug)]
+#[derive(Clone, Copy)]
 pub enum Fault {
     /// The line of this number isn't the text of a record.
     BadRecord(u32),
@@ -35,7 +35,7 @@ pub enum Fault {
 }
 
 /// How a stream ends.
-#[derive(Clone, Copy, Debug)]
+#[derive(Clone, Copy)]
 pub enum End {
     /// It is whole.
     Done,

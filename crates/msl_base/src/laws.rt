@@ -1,6 +1,7 @@
 //! Laws of the definitions, and worked examples. Each function is empty, and its contract is the law or the examples.
 
-ghost use Rattle.std.specs.Prelude.{◌≡◌, pos, [], ◌∷◌};
+ghost use Rattle.std.specs.Prelude.{◌≡◌, ◌<◌, ◌≤◌, ℕ, pos, [], ◌∷◌};
+ghost use Rattle.msl_base.specs.Blocks.{AreTiles, IsInBlock, block_of};
 ghost use Rattle.msl_base.specs.declared.fault.Fault.TheVariants.{Shape, ManyLines};
 ghost use Rattle.msl_base.specs.Examples.{first_of};
 ghost use Rattle.msl_base.specs.Streams.{Record, Outcome, Stream, stream, done, failed, unread, cut, Pointwise, Unordered, pointwise, IsFunction, PrefixLaw, Sound};
@@ -42,4 +43,10 @@ pub fn records_of_a_farm()
 /// An output that was given up is sound where it is a beginning.
 pub fn a_beginning_is_sound()
     ensures { Sound (Pointwise (λ x r. r ≡ first_of x)) (stream ((pos 3 ∷ []) ∷ (pos 5 ∷ []) ∷ []) done) (stream ((pos 3 ∷ []) ∷ []) cut) }
+{}
+
+/// Blocks lie side by side from the first place to the last; each place is in one of them.
+pub fn tiles()
+    ensures side_by_side { (n b : ℕ) → 1 ≤ b → AreTiles n b }
+    ensures block { (n b j i : ℕ) → j < b → IsInBlock n b j i → block_of n b i ≡ j }
 {}

@@ -1,4 +1,6 @@
-ghost use Rattle.std.specs.Prelude.{◌≡◌, IfOk};
+ghost use Rattle.std.specs.Prelude.{◌≡◌, IfOk, map, position};
+ghost use Rattle.std.specs.Str.{bytes_eq};
+ghost use Rattle.msl_base.specs.Names.{Text, place_among};
 
 use std::alloc::{AllocError, AllocFailed, Global};
 use std::marker::Model;
@@ -20,7 +22,7 @@ impl<T: Drop> From<AllocFailed<T>> for NoMemory {
 }
 
 /// A name or another word, seen as its text.
-#[derive(Debug, Drop)]
+#[derive(Drop)]
 pub struct Name {
     text: String,
 }
@@ -49,4 +51,34 @@ impl Name {
     {
         self.text.as_str()
     }
+}
+
+/// What has a name.
+pub trait Named {
+    ghost called: { Self → Text };
+
+    /// The name.
+    fn name(&self) -> &str
+        ensures { result.now ≡ called self.now };
+}
+
+/// The place of the first of these that has this name.
+pub fn position_named<T: Named>(items: &[T], name: &str) -> Option<usize>
+    ensures { result ≡ place_among (map T.called items.now) name.now }
+{
+    first_named(items, name)
+}
+
+// The same by the items themselves.
+fn first_named<T: Named>(items: &[T], name: &str) -> Option<usize>
+    ensures { result ≡ position (λ x. bytes_eq name.now (T.called x)) items.now }
+{
+    items.iter().position(|item| name == item.name())
+}
+
+/// The place of the first of these names that is this one.
+pub fn position_among(names: &[Name], name: &str) -> Option<usize>
+    ensures { result ≡ place_among names.now name.now }
+{
+    names.iter().position(|other| name == other.as_str())
 }

@@ -1,13 +1,15 @@
 ghost use Rattle.std.specs.Prelude.{◌≡◌, ◌<◌, ◌≤◌, [], ◌∷◌, ◌++◌, length, IsNone, IfSome, ◌↔◌};
 ghost use Rattle.msl_base.specs.Paths.{AreSteps};
+ghost use Rattle.msl_base.specs.declared.limits.TheConstants.{MOST_CHILDREN, MOST_LEVELS};
 
+use crate::limits::MOST_LEVELS;
 use std::marker::Model;
 
 /// A path from the root of a tree: which child was taken at each step. Seen as the list of its steps, each
 /// below 64; it has at most 64 of them.
-#[derive(Clone, Copy, Debug)]
+#[derive(Clone, Copy)]
 pub struct Path {
-    steps: [u8; 64],
+    steps: [u8; MOST_LEVELS],
     len: usize,
 }
 
@@ -32,18 +34,18 @@ impl Path {
         ensures { result ≡ [] }
     {
         Path {
-            steps: [0; 64],
+            steps: [0; MOST_LEVELS],
             len: 0,
         }
     }
 
     /// The path one step further; none where it would be longer than 64 steps.
     pub fn push(self, child: u8) -> Option<Path>
-        requires { child < 64 }
-        ensures full { IsNone result ↔ (length self ≡ 64) }
+        requires { child < MOST_CHILDREN }
+        ensures full { IsNone result ↔ (length self ≡ MOST_LEVELS) }
         ensures pushed { IfSome result (λ path. path ≡ self ++ child ∷ []) }
     {
-        if self.len == 64 {
+        if self.len == MOST_LEVELS {
             return None;
         }
         let mut steps = self.steps;
@@ -58,7 +60,7 @@ impl Path {
     pub fn as_slice(&self) -> &[u8]
         ensures steps { result.now ≡ self.now }
         ensures below { AreSteps self.now }
-        ensures few { length self.now ≤ 64 }
+        ensures few { length self.now ≤ MOST_LEVELS }
     {
         &self.steps[..self.len]
     }

@@ -5,7 +5,7 @@ use std::alloc::Global;
 use std::marker::Model;
 
 /// A record: a list of numbers. Contracts see it with its spare room, how many more numbers `put` can append.
-#[derive(Debug, Drop)]
+#[derive(Drop)]
 pub struct Rec {
     numbers: Vec<i64>,
     spare: usize,

@@ -1,11 +1,13 @@
 ghost use Rattle.std.specs.Prelude.{◌≡◌, ◌≤◌, length};
+ghost use Rattle.msl_base.specs.declared.limits.TheConstants.{MOST_SMALL};
 
+use crate::limits::MOST_SMALL;
 use std::marker::Model;
 
 /// A list of at most 16 numbers that takes no memory of its own.
-#[derive(Clone, Copy, Debug)]
+#[derive(Clone, Copy)]
 pub struct Small {
-    numbers: [i64; 16],
+    numbers: [i64; MOST_SMALL],
     len: usize,
 }
 
@@ -27,10 +29,10 @@ impl Model for Small {
 impl Small {
     /// The same list.
     pub fn of(xs: &[i64]) -> Small
-        requires { length xs.now ≤ 16 }
+        requires { length xs.now ≤ MOST_SMALL }
         ensures { result ≡ xs.now }
     {
-        let mut numbers = [0; 16];
+        let mut numbers = [0; MOST_SMALL];
         numbers[..xs.len()].copy_from_slice(xs);
         Small {
             numbers,
@@ -41,7 +43,7 @@ impl Small {
     /// The list, which has at most 16 numbers.
     pub fn as_slice(&self) -> &[i64]
         ensures numbers { result.now ≡ self.now }
-        ensures short { length self.now ≤ 16 }
+        ensures short { length self.now ≤ MOST_SMALL }
     {
         &self.numbers[..self.len]
     }

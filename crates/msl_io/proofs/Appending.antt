@@ -1,12 +1,12 @@
 -- What several writes to one sink append.
-use Rattle.std.proofs.Common.{rules, arith, ◌≡◌, ℕ, ◌+◌, ◌-◌, ◌<◌, ◌≤◌, List, [], ◌∷◌, ◌++◌, length, take, drop, ap, get_or, ℤ, pos, add-one, sym, refl, ◌∙◌, append_assoc, take-append-drop, length-append, length-drop, Option, Some, None, Result, Ok, Err, OnErr, OnOk, subst, map}
+use Rattle.std.proofs.Common.{rules, arith, ◌≡◌, ℕ, ◌+◌, ◌-◌, ◌<◌, ◌≤◌, List, [], ◌∷◌, ◌++◌, length, take, drop, ap, get_or, ℤ, pos, add-one, sym, refl, ◌∙◌, append_assoc, take-append-drop, length-append, Option, Some, None, Result, Ok, Err, OnErr, OnOk, subst, map}
 use Rattle.std.proofs.Math.Seq.{take-length, drop-cons, drop-length}
 use Rattle.std.specs.Io.KnownBytes.{Appends, Keeps}
 use Rattle.msl_io.specs.Text.{AppendsPart, text_of}
 use Rattle.msl_io.specs.Writing.{Wrote, HandsOn, others}
 use Rattle.std.specs.Fmt.{signed_decimal}
 use Rattle.std.specs.List.{join_with_byte}
-use Rattle.msl_io.specs.Causes.{HasCause, Rose}
+use Rattle.msl_outside.specs.Causes.{HasCause, Rose}
 
 -- nothing was appended yet
 pub none_appended : (held : Option (List ℕ)) → Appends held held []
@@ -26,9 +26,6 @@ kept_appended None b c x p q = tt
 kept_appended (Some xs) None c x p q = absurd p
 kept_appended (Some xs) (Some ys) None x p q = absurd q
 kept_appended (Some xs) (Some ys) (Some zs) x p q = q ∙ p
-
-pub rest_of : (n : ℕ) (xs : List ℕ) → take (length xs - n) (drop n xs) ≡ drop n xs
-rest_of n xs = ap (λ (k : ℕ). take k (drop n xs)) (sym (length-drop n xs)) ∙ take-length (drop n xs)
 
 -- a step of writing: n more bytes
 pub wrote_more : (a b c : Option (List ℕ)) (f g k : ℕ) (text rest : List ℕ) (n : ℕ) → Wrote a b f g text rest → Appends b c (take n rest) → g ≤ k → Wrote a c f k text (drop n rest)

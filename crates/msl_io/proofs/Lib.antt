@@ -1,7 +1,6 @@
 pub mod Answering
 pub mod Appending
 pub mod Digits
-pub mod Pieces
 pub mod Rows
 pub mod Splitting
 pub mod Taking

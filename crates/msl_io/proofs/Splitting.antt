@@ -1,23 +1,24 @@
 -- The words of a text, and how they are read piece by piece.
-use Rattle.std.proofs.Common.{arith, ◌≡◌, ℕ, ℤ, ◌+◌, ◌-◌, ◌<◌, ◌≤◌, List, [], ◌∷◌, ◌++◌, length, ap, sym, refl, ◌∙◌, subst, Bool, true, false, cond, ltb, Option, Some, None, ◌==◌, not, ◌&&◌, take, drop, get_or, ◌⊎◌, inl, inr, ⊎_elim, append_assoc, append-nil, length-append, Ok, Err}
+use Rattle.std.proofs.Common.{arith, ◌≡◌, ℕ, ℤ, ◌+◌, ◌-◌, ◌<◌, ◌≤◌, List, [], ◌∷◌, ◌++◌, length, ap, sym, refl, ◌∙◌, subst, true, false, ltb, Option, Some, None, ◌==◌, not, ◌&&◌, take, drop, get_or, ◌⊎◌, inl, inr, ⊎_elim, append_assoc, append-nil, length-append, Ok, Err}
 use Rattle.std.proofs.lemmas.Bool.{cond-true, cond-false, lt-ltb, le-ltb, cases_Bool, or_parts, and_parts, and_cases, not-true, not-false, true≢false}
 use Rattle.std.proofs.lemmas.Bool.Decides.{nat_tests}
 use Rattle.std.proofs.lemmas.List.{take-append-drop}
-use Rattle.std.proofs.lemmas.List.Elements.{filter-append, All-append, All-push, All-head, All-tail, All-nil}
+use Rattle.std.proofs.lemmas.List.Elements.{filter-append, All-append, All-push, All-nil}
 use Rattle.std.proofs.lemmas.Grind.{get_or_default_zero}
 use Rattle.std.proofs.lemmas.Option.{same_Some}
 use Rattle.std.proofs.lemmas.Str.Parse.{digit_at}
-use Rattle.std.proofs.lemmas.List.Splits.{slice_split_none, slice_split-cons_yes, slice_split-cons_no}
+use Rattle.std.proofs.lemmas.List.Splits.{slice_split_none}
 use Rattle.std.specs.Char.{is_ascii_digit}
 use Rattle.std.specs.Int.{IsInRange}
 use Rattle.std.specs.Str.Parse.{AllDigits}
-use Rattle.std.specs.List.{All, filter, slice_split, onto_first}
+use Rattle.std.specs.List.{All, filter, slice_split}
 use Rattle.msl_base.specs.declared.fault.Fault.TheVariants as faults
+use Rattle.msl_base.proofs.Lists.{Begins, split-begins, split-cut}
 use Rattle.msl_io.specs.declared.numeral.Word.{Word}
 use Rattle.msl_io.specs.declared.words.Words.{Words}
 use Rattle.msl_io.specs.Lines.{is_blank, is_word, words, number_of, numbers_of, in_front, record_of, most_numbers}
 use Rattle.msl_io.specs.Taking.{is_sign, IsWord, IsSpoilt, IsOpen, Scanned, Closed, Holds, IsDigitsFront}
-use Rattle.msl_io.proofs.Appending.{rest_of}
+use Rattle.msl_outside.proofs.Pieces.{rest_of}
 use Rattle.msl_io.proofs.Digits.{IsStray, stray}
 
 -- ---- parts between blanks
@@ -25,54 +26,14 @@ use Rattle.msl_io.proofs.Digits.{IsStray, stray}
 abbrev Parts : Type 0
 Parts = List (List ℕ)
 
--- the first part goes on, and others follow
-pub record Begins (front : List ℕ) (parts : Parts) : Type 0 where
-  pub more : List ℕ
-  pub others : Parts
-  pub is : parts ≡ (front ++ more) ∷ others
-
-onto-begins : (x : ℕ) (front : List ℕ) (parts : Parts) → Begins front parts → Begins (x ∷ front) (onto_first x parts)
-onto-begins x front parts b = record { more = b.more; others = b.others; is = ap (onto_first x) b.is }
-
-onto-some : (x : ℕ) (parts : Parts) → Begins [] (onto_first x parts)
-onto-some x [] = record { more = x ∷ []; others = []; is = refl }
-onto-some x (part ∷ parts) = record { more = x ∷ part; others = parts; is = refl }
-
-split-some-by : (x : ℕ) (xs : List ℕ) (t : Bool) → Begins [] (cond t ([] ∷ slice_split is_blank xs) (onto_first x (slice_split is_blank xs)))
-split-some-by x xs true = record { more = []; others = slice_split is_blank xs; is = refl }
-split-some-by x xs false = onto-some x (slice_split is_blank xs)
-
-split-some : (xs : List ℕ) → Begins [] (slice_split is_blank xs)
-split-some [] = record { more = []; others = []; is = refl }
-split-some (x ∷ xs) = split-some-by x xs (is_blank x)
-
 abbrev IsUnbroken : List ℕ → Type 0
 IsUnbroken = All (λ (b : ℕ). is_blank b ≡ false)
-
-split-begins : (front ys : List ℕ) → IsUnbroken front → Begins front (slice_split is_blank (front ++ ys))
-split-begins [] ys h = split-some ys
-split-begins (x ∷ front) ys h =
-    subst (Begins (x ∷ front)) (sym (slice_split-cons_no is_blank x (front ++ ys) (All-head (λ (b : ℕ). is_blank b ≡ false) x front h)))
-    (onto-begins x front (slice_split is_blank (front ++ ys)) (split-begins front ys (All-tail (λ (b : ℕ). is_blank b ≡ false) x front h)))
-
-onto-append : (x : ℕ) (parts others : Parts) → Begins [] parts → onto_first x (parts ++ others) ≡ onto_first x parts ++ others
-onto-append x [] others b = absurd (omega (arith, ap length b.is))
-onto-append x (part ∷ parts) others b = refl
-
-split-blank-by : (x : ℕ) (xs ys : List ℕ) (b : ℕ) (t : Bool) → slice_split is_blank (xs ++ b ∷ ys) ≡ slice_split is_blank xs ++ slice_split is_blank ys
-    → cond t ([] ∷ slice_split is_blank (xs ++ b ∷ ys)) (onto_first x (slice_split is_blank (xs ++ b ∷ ys))) ≡ cond t ([] ∷ slice_split is_blank xs) (onto_first x (slice_split is_blank xs)) ++ slice_split is_blank ys
-split-blank-by x xs ys b true e = ap (λ (t : Parts). [] ∷ t) e
-split-blank-by x xs ys b false e = ap (onto_first x) e ∙ onto-append x (slice_split is_blank xs) (slice_split is_blank ys) (split-some xs)
-
-split-blank : (xs ys : List ℕ) (b : ℕ) → is_blank b ≡ true → slice_split is_blank (xs ++ b ∷ ys) ≡ slice_split is_blank xs ++ slice_split is_blank ys
-split-blank [] ys b is = slice_split-cons_yes is_blank b ys is
-split-blank (x ∷ xs) ys b is = split-blank-by x xs ys b (is_blank x) (split-blank xs ys b is)
 
 -- ---- words
 
 -- a blank ends the words before it
 pub words-blank : (xs ys : List ℕ) (b : ℕ) → is_blank b ≡ true → words (xs ++ b ∷ ys) ≡ words xs ++ words ys
-words-blank xs ys b is = ap (filter is_word) (split-blank xs ys b is) ∙ filter-append is_word (slice_split is_blank xs) (slice_split is_blank ys)
+words-blank xs ys b is = ap (filter is_word) (split-cut is_blank xs ys b is) ∙ filter-append is_word (slice_split is_blank xs) (slice_split is_blank ys)
 
 pub words-at_blank : (xs : List ℕ) (b : ℕ) → is_blank b ≡ true → words (xs ++ b ∷ []) ≡ words xs
 words-at_blank xs b is = words-blank xs [] b is ∙ append-nil (words xs)
@@ -87,7 +48,7 @@ words-unbroken last h some = ap (filter is_word) (slice_split_none is_blank last
 -- and begin the first word, whatever follows
 words-begins : (front ys : List ℕ) → IsUnbroken front → 0 < length front → Begins front (words (front ++ ys))
 words-begins front ys h some =
-    let b = split-begins front ys h in
+    let b = split-begins is_blank front ys h in
     record {
       more = b.more;
       others = filter is_word b.others;

@@ -1,8 +1,8 @@
-pub mod Causes
-pub mod Fetching
+pub use Rattle.msl_outside.specs.Causes
+pub use Rattle.msl_outside.specs.Fetching
+pub use Rattle.msl_outside.specs.Memory
 pub mod Known
 pub mod Lines
-pub mod Memory
 pub mod Reader
 pub mod Taking
 pub mod Text

@@ -4,6 +4,7 @@ use Rattle.std.specs.List.{slice_split}
 use Rattle.std.specs.Str.{all_ascii_digits}
 use Rattle.std.specs.Str.Lines.{strip_carriage_return}
 use Rattle.std.specs.Str.Parse.{digits_value}
+use Rattle.msl_base.specs.declared.limits.TheConstants.{MOST_LINE_BYTES, MOST_LINES, MOST_NUMBERS}
 use Rattle.msl_base.specs.declared.fault.Fault.TheVariants.{BadRecord, LongLine, WideRecord, ManyLines}
 use Rattle.msl_base.specs.Streams.{Outcome, Ending, done, failed, unread, Stream, stream, before}
 
@@ -82,10 +83,10 @@ numbers_of (w ∷ ws) = in_front (number_of w) (numbers_of ws)
 
 -- the most bytes of a line before its LF or the end, and the most numbers of a record
 abbrev pub most_bytes : ℕ
-most_bytes = 33554432
+most_bytes = MOST_LINE_BYTES
 
 abbrev pub most_numbers : ℕ
-most_numbers = 1048576
+most_numbers = MOST_NUMBERS
 
 -- the record of line number n, from the numbers that its words spell
 abbrev pub record_of : ℕ → Option (List ℤ) → Outcome
@@ -124,7 +125,7 @@ part_of limit n (line ∷ lines) =
     else stream [] (open_line n line.bytes)
 
 abbrev pub most_lines : ℕ
-most_lines = 4294967295
+most_lines = MOST_LINES
 
 -- the stream that bytes read as
 abbrev pub reads : List ℕ → Stream

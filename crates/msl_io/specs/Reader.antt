@@ -8,7 +8,7 @@ use Rattle.msl_io.specs.declared.lines.Line.TheVariants.{Rec, End, BadRecord, Lo
 use Rattle.msl_io.specs.declared.lines.Stop.{Stop}
 use Rattle.msl_io.specs.declared.lines.Stop.TheVariants as stop
 use Rattle.msl_io.specs.Known.{Told}
-use Rattle.msl_io.specs.Causes.{Rose}
+use Rattle.msl_outside.specs.Causes.{Rose}
 use Rattle.msl_io.specs.Lines.{Row, FirstRow, HasNoLf, rows_of, reading, stream_of, part_of}
 
 -- the bytes that it has taken and not used, how many lines it has read, how many it will read at most, and why it

@@ -16,7 +16,7 @@ use Rattle.msl_io.specs.declared.text.Text.{Text}
 use Rattle.msl_io.specs.declared.words.Words.{Words}
 use Rattle.msl_io.specs.declared.lines.Stop.{Stop}
 use Rattle.msl_io.specs.declared.lines.Stop.TheVariants as stop
-use Rattle.msl_io.specs.Causes.{Rose}
+use Rattle.msl_outside.specs.Causes.{Rose}
 use Rattle.msl_io.specs.Reader.{MayGoOn, stop_of}
 use Rattle.msl_io.specs.Lines.{HasNoLf, is_blank, words, numbers_of, most_bytes, most_numbers}
 

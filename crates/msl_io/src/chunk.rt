@@ -2,8 +2,8 @@ ghost use Rattle.std.specs.Prelude.{◌≡◌, [], IfOk, ◌≤◌, length, drop
 ghost use Rattle.msl_io.specs.Known.{Told};
 ghost use Rattle.msl_io.specs.Taking.{Fills, FillsSome, FillCause};
 
-use crate::Source;
 use msl_base::NoMemory;
+use msl_outside::Source;
 use std::alloc::Global;
 use std::marker::Model;
 

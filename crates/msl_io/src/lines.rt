@@ -3,16 +3,16 @@ ghost use Rattle.msl_io.specs.Known.{Told};
 ghost use Rattle.msl_io.specs.Reader.{ReadsLine, stop_of, Counts, ReadCause, Reads, Fits};
 ghost use Rattle.msl_io.specs.Taking.{last_stop, Stops};
 
-use crate::Source;
 use crate::chunk::{Chunk, Filled};
 use crate::text::{Part, Text};
 use msl_base::{NoMemory, Rec};
+use msl_outside::Source;
 use std::alloc::Global;
 use std::marker::Model;
 use std::mem;
 
 /// What the next line is. Lines are numbered from 1.
-#[derive(Debug, Drop)]
+#[derive(Drop)]
 pub enum Line {
     /// The line's record.
     Rec(Rec),
@@ -236,6 +236,3 @@ fn read_line<S: Source>(
         }
     }
 }
-
-#[cfg(test)]
-mod tests;

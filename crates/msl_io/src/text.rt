@@ -6,11 +6,9 @@ use crate::Line;
 use crate::chunk::Chunk;
 use crate::numeral::Word;
 use crate::words::Words;
+use msl_base::limits::MOST_LINE_BYTES;
 use msl_base::{NoMemory, Rec};
 use std::alloc::Global;
-
-/// How many bytes a line may have before its LF.
-pub const MOST_BYTES: usize = 33_554_432;
 
 /// What is taken of a line out of a chunk.
 pub enum Part {
@@ -65,7 +63,7 @@ impl Text {
     {
         let bytes = chunk.as_slice();
         let end = line_end(bytes);
-        if end > MOST_BYTES - self.len {
+        if end > MOST_LINE_BYTES - self.len {
             return Part::Long;
         }
         let ended = end < bytes.len();

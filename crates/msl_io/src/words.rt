@@ -6,11 +6,9 @@ ghost use Rattle.msl_io.specs.Taking.{IsWord, Scanned, Closed, Gives, IsOfText};
 
 use crate::Line;
 use crate::numeral::Word;
+use msl_base::limits::MOST_NUMBERS;
 use msl_base::{NoMemory, Rec};
 use std::alloc::Global;
-
-/// How many numbers a record may have.
-pub const MOST_NUMBERS: usize = 1_048_576;
 
 /// The numbers of the whole words of a text. Of a text that is no record's it keeps none.
 #[derive(Drop)]

@@ -1,14 +1,14 @@
 ghost use Rattle.std.specs.Prelude.{OnOk, OnErr, ◌≡◌, ◌++◌, [], ◌∷◌, ◌+◌, ◌≤◌, length};
 ghost use Rattle.std.specs.Io.KnownBytes.{Appends};
-ghost use Rattle.msl_io.specs.Causes.{HasCause};
+ghost use Rattle.msl_outside.specs.Causes.{HasCause};
 ghost use Rattle.msl_io.specs.Text.{text_of, AppendsPart};
 ghost use Rattle.msl_io.specs.Writing.{others, HandsOn};
 
-use crate::Sink;
 use crate::piece::{self, Piece};
+use msl_outside::Sink;
 
 /// A sink failed, and counted it, before all was written.
-#[derive(Clone, Copy, Debug, PartialEq, Eq)]
+#[derive(Clone, Copy)]
 pub struct WriteFault;
 
 /// Writes a record's text: the numbers in decimal, one space between two, and LF. It takes no memory. At a fault the

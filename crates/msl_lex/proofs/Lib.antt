@@ -8,3 +8,5 @@ pub mod Said
 pub mod Spellings
 pub mod Steps
 pub mod Within
+pub mod Spelt
+pub mod Tables

@@ -1,6 +1,7 @@
 -- The tokens of a text: each with what it says, where it begins and where it is over.
 use Rattle.std.specs.Prelude.{◌≡◌, ℕ, zero, suc, ◌+◌, ◌-◌, if◌then◌else◌, ◌==◌, nat_lt, List, [], ◌∷◌, map, take, slice_range, Result, Ok, Err}
 use Rattle.std.specs.List.{prefix_len}
+use Rattle.msl_base.specs.declared.limits.TheConstants.{LONGEST_NAME, GREATEST_NUMBER}
 use Rattle.msl_lex.specs.declared.lexer.Piece.{Piece}
 use Rattle.msl_lex.specs.declared.lexer.Piece.TheVariants as piece
 use Rattle.msl_lex.specs.declared.token.Token.{Token}
@@ -34,10 +35,10 @@ form_of kind.Sign spelling = sign spelling
 form_of kind.Close spelling = close
 
 abbrev pub longest_name : ℕ
-longest_name = 64
+longest_name = LONGEST_NAME
 
 abbrev pub greatest_number : ℕ
-greatest_number = 9223372036854775807
+greatest_number = GREATEST_NUMBER
 
 abbrev pub word_at : ℕ → ℕ → Result Piece LexFault
 word_at at len = if nat_lt longest_name len then Err (LongName at) else Ok (piece.Token kind.Word len)

@@ -4,3 +4,5 @@ pub mod Layout
 pub mod Pieces
 pub mod Places
 pub mod Printing
+pub mod Names
+pub mod Spelling

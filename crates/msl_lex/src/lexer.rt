@@ -1,15 +1,13 @@
 ghost use Rattle.std.specs.Prelude.{◌≡◌, ◌≤◌, ◌<◌, ◌^◌, length, slice_index, IfOk, IfErr};
 ghost use Rattle.std.specs.List.{prefix_len};
+ghost use Rattle.msl_base.specs.declared.limits.TheConstants.{MOST_SCRIPT_BYTES};
 ghost use Rattle.msl_lex.specs.Bytes.{is_blank, is_letter, is_digit, is_word_byte, is_comment_byte, is_short_sign, starts_long_sign};
 ghost use Rattle.msl_lex.specs.Lexemes.{first_piece, word_at, number_at, sign_at, AreTokensOf, IsRefusalOf};
 ghost use Rattle.msl_lex.specs.Pieces.{IsWithin};
 
 use crate::{LexFault, Token, TokenKind, Tokens};
+use msl_base::limits::{GREATEST_NUMBER, LONGEST_NAME};
 use std::alloc::Global;
-
-const LONGEST_NAME: usize = 64;
-
-const GREATEST_NUMBER: u128 = 9_223_372_036_854_775_807;
 
 /// The tokens of a text of at most 1,048,576 bytes, in order; the last is `Close`, at the text's
 /// length. Spaces, tabs, CR, LF and comments, from `#` to the next LF or the end, separate them.
@@ -19,7 +17,7 @@ const GREATEST_NUMBER: u128 = 9_223_372_036_854_775_807;
 /// The first fault, with its place: `Byte` at a byte that begins no token, `LongName` at a word of
 /// more than 64 bytes, `Number` at a number above 9223372036854775807; `NoMemory` at any text.
 pub fn lex(alloc: Global, text: &[u8]) -> Result<Tokens, LexFault>
-    requires { length text.now ≤ 2 ^ 20 }
+    requires { length text.now ≤ MOST_SCRIPT_BYTES }
     ensures tokens { IfOk result (AreTokensOf text.now) }
     ensures refusal { IfErr result (IsRefusalOf text.now) }
 {
@@ -39,8 +37,8 @@ pub fn lex(alloc: Global, text: &[u8]) -> Result<Tokens, LexFault>
 }
 
 fn token(kind: TokenKind, from: usize, to: usize) -> Token
-    requires from { from ≤ 2 ^ 20 }
-    requires to { to ≤ 2 ^ 20 }
+    requires from { from ≤ MOST_SCRIPT_BYTES }
+    requires to { to ≤ MOST_SCRIPT_BYTES }
     ensures { result ≡ record { kind = kind; from = from; to = to } }
 {
     Token {
@@ -107,7 +105,7 @@ fn number(text: &[u8], at: u32) -> Result<Piece, LexFault>
             return Ok(Piece::Token(TokenKind::Number, len));
         }
         value = 10 * value + u128::from(byte - b'0');
-        if value > GREATEST_NUMBER {
+        if value > u128::from(GREATEST_NUMBER) {
             return Err(LexFault::Number(at));
         }
     }
@@ -163,6 +161,3 @@ fn is_short_sign(byte: u8) -> bool
 {
     matches!(byte, b'%' | b'('..=b'-' | b'/' | b';'..=b'>' | b'[' | b']' | b'{' | b'}')
 }
-
-#[cfg(test)]
-mod tests;

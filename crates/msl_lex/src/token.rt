@@ -1,4 +1,4 @@
-use msl_base::NoMemory;
+use msl_base::{ListOf, NoMemory};
 use thiserror::Error;
 
 /// What a token is.
@@ -15,12 +15,15 @@ pub enum TokenKind {
 }
 
 /// A token of a text: what it is, and the places in bytes where it begins and where it is over.
-#[derive(Clone, Copy, Debug, PartialEq, Eq)]
+#[derive(Clone, Copy)]
 pub struct Token {
     pub kind: TokenKind,
     pub from: u32,
     pub to: u32,
 }
+
+/// A list of tokens.
+pub type Tokens = ListOf<Token>;
 
 /// Why a text has no tokens. The number is the place, in bytes, of the first fault.
 #[derive(Debug, Drop, PartialEq, Eq, Error)]

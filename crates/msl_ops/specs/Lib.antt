@@ -3,3 +3,4 @@ pub mod Gcd
 pub mod Meaning
 pub mod Lawful
 pub mod Keeping
+pub mod Operators

@@ -1,6 +1,7 @@
 -- The operator table: the rows in order, their names, and how great their modulus may be.
 use Rattle.std.specs.Prelude.{ℕ, ℤ, pos, List, [], ◌∷◌, codes, find, Option}
 use Rattle.std.specs.Str.{bytes_eq}
+use Rattle.msl_base.specs.declared.limits.TheConstants.{GREATEST_MODULUS}
 use Rattle.msl_ops.specs.declared.op.OpKind.{OpKind}
 use Rattle.msl_ops.specs.declared.op.OpKind.TheVariants.{Sum, Min, Max, And, Or, Xor, Gcd, AddMod, MulMod}
 
@@ -20,8 +21,8 @@ name_of MulMod = codes "mulmod"
 
 -- 1 where the row needs no modulus
 abbrev pub greatest_modulus : OpKind → ℤ
-greatest_modulus AddMod = pos 1000000000000000000
-greatest_modulus MulMod = pos 1000000000000000000
+greatest_modulus AddMod = GREATEST_MODULUS
+greatest_modulus MulMod = GREATEST_MODULUS
 greatest_modulus _ = pos 1
 
 -- the first row with this name

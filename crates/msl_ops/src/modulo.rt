@@ -2,6 +2,7 @@
 
 ghost use Rattle.std.specs.Prelude.{◌≡◌, pos, ◌≤ℤ◌, ◌<ℤ◌, ◌+ℤ◌, ◌*ℤ◌};
 ghost use Rattle.std.specs.Int.{int_rem_euclid};
+ghost use Rattle.msl_base.specs.declared.limits.TheConstants.{GREATEST_MODULUS};
 
 pub fn modulo(x: i128, m: i128) -> i128
     requires { pos 1 ≤ℤ m }
@@ -13,7 +14,7 @@ pub fn modulo(x: i128, m: i128) -> i128
 pub fn sum_modulo(a: i128, b: i128, m: i128) -> i128
     requires a { (pos 0 ≤ℤ a) × (a <ℤ m) }
     requires b { (pos 0 ≤ℤ b) × (b <ℤ m) }
-    requires m { m ≤ℤ pos 1000000000000000000 }
+    requires m { m ≤ℤ GREATEST_MODULUS }
     ensures { result ≡ int_rem_euclid (a +ℤ b) m }
 {
     modulo(a + b, m)
@@ -22,7 +23,7 @@ pub fn sum_modulo(a: i128, b: i128, m: i128) -> i128
 pub fn product_modulo(a: i128, b: i128, m: i128) -> i128
     requires a { (pos 0 ≤ℤ a) × (a <ℤ m) }
     requires b { (pos 0 ≤ℤ b) × (b <ℤ m) }
-    requires m { m ≤ℤ pos 1000000000000000000 }
+    requires m { m ≤ℤ GREATEST_MODULUS }
     ensures { result ≡ int_rem_euclid (a *ℤ b) m }
 {
     modulo(a * b, m)

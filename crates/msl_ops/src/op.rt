@@ -28,12 +28,24 @@ pub enum OpKind {
 
 /// An operator. `AddMod` and `MulMod` have a modulus from 1 to 1,000,000,000,000,000,000; that of all others is 1,
 /// and means nothing.
-#[derive(Clone, Copy, Debug, PartialEq, Eq)]
+#[derive(Clone, Copy)]
 pub struct Op {
     pub kind: OpKind,
     pub modulus: i64,
     pub ghost least: { pos 1 ≤ℤ modulus },
     pub ghost most: { modulus ≤ℤ greatest_modulus kind },
+}
+
+impl OpKind {
+    ghost use Rattle.std.specs.Prelude.{◌≡◌};
+    ghost use Rattle.msl_ops.specs.Operators.{has_modulus};
+
+    /// Whether operators of this kind have a modulus.
+    pub fn has_modulus(self) -> bool
+        ensures { result ≡ has_modulus self }
+    {
+        matches!(self, OpKind::AddMod | OpKind::MulMod)
+    }
 }
 
 impl Op {

@@ -6,7 +6,7 @@ use crate::OpKind;
 use crate::rows::{kinds, name, rows};
 
 /// A table of operators, in the order of its rows.
-#[derive(Clone, Copy, Debug)]
+#[derive(Clone, Copy)]
 pub struct OpTable<const N: usize> {
     pub kinds: [OpKind; N],
 }

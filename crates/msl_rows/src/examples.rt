@@ -1,7 +1,7 @@
 //! The scripts of the folder `examples`, what `check` makes of them, and for those that are run yet their records and
 //! results.
 
-use crate::fixture::{Row, checked, done, faults, meet};
+use crate::fixture::{Row, is_checked, meet_rows};
 use std::test::Fail;
 
 const SQUARE: &str = "# The square of each record, which is one number.
@@ -122,20 +122,21 @@ bnb pick {
 main = bnb pick on 2;
 ";
 
+const RUN: &[Row<'static>] = &[
+    Row::Done(SQUARE, b"3\n-4\n", b"9\n16\n"),
+    Row::Done(APART, b"0 0 3 4\n1 -1 1 -1\n-2 5 10 0\n", b"25\n0\n169\n"),
+    Row::Done(POWER, b"2 10\n-3 3\n7 0\n", b"2 10 1024\n-3 3 -27\n7 0 1\n"),
+    Row::Faults(
+        SPLIT,
+        b"7 3\n-7 3\n7 -3\n1 0\n5 5\n",
+        b"2 1\n-2 -1\n-2 1\n",
+        b"muesli: stage 1: division by zero\n",
+    ),
+];
+
 #[test]
 fn examples_are_met(rt: HostRuntime) -> Result<(), Fail> {
-    let rows = [
-        done(SQUARE, b"3\n-4\n", b"9\n16\n"),
-        done(APART, b"0 0 3 4\n1 -1 1 -1\n-2 5 10 0\n", b"25\n0\n169\n"),
-        done(POWER, b"2 10\n-3 3\n7 0\n", b"2 10 1024\n-3 3 -27\n7 0 1\n"),
-        faults(
-            SPLIT,
-            b"7 3\n-7 3\n7 -3\n1 0\n5 5\n",
-            b"2 1\n-2 -1\n-2 1\n",
-            b"muesli: stage 1: division by zero\n",
-        ),
-    ];
-    meet(&rt, rt.alloc(), &rows)
+    meet_rows(&rt, rt.alloc(), RUN)
 }
 
 // Each script, and what `check` makes of it.
@@ -275,12 +276,7 @@ main = bnb pick on 2;
 #[test]
 fn examples_are_checked(rt: HostRuntime) -> Result<(), Fail> {
     for (script, text) in CHECKED {
-        // What comes of a canonical text is the text itself, since the line with the need is a comment.
-        let rows = [
-            checked(script, text.as_bytes()),
-            checked(text, text.as_bytes()),
-        ];
-        meet(&rt, rt.alloc(), &rows)?;
+        is_checked(&rt, rt.alloc(), script, text)?;
     }
     Ok(())
 }

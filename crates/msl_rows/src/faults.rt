@@ -1,121 +1,157 @@
 //! Sources, sinks and libraries that fail at one of their calls.
 
-use crate::fixture::{CHECK, Outside, SEQ, SQUARE, WORKING, run};
+use crate::fixture::{CHECK, Case, Left, Outside, SEQ, SQUARE, WORKING, meet_over, run};
+use std::process::Abort;
 use std::test::Fail;
+
+const SECOND_READ: Outside<'static> = Outside {
+    read_piece: 2,
+    reads: &[2],
+    ..WORKING
+};
+
+const SECOND_WRITE: Outside<'static> = Outside {
+    write_piece: 3,
+    writes: &[2],
+    ..WORKING
+};
+
+const FIRST_FETCH: Outside<'static> = Outside {
+    fetches: &[1],
+    ..WORKING
+};
+
+const FIRST_MESSAGE: Outside<'static> = Outside {
+    messages: &[1],
+    ..WORKING
+};
+
+const NO_READ: &[u8] = b"muesli: read fault\n";
+
+const NO_WRITE: &[u8] = b"muesli: write fault\n";
+
+const NO_SCRIPT: &[u8] = b"muesli: cannot read script\n";
+
+// A run of which nothing is written since the script can't be read.
+const FAILED: Case<'static> = Case {
+    words: SEQ,
+    script: SQUARE,
+    input: b"3\n",
+    out: b"",
+    message: NO_SCRIPT,
+    code: 3,
+};
+
+const FAILING: &[(Outside<'static>, Case<'static>)] = &[
+    (
+        SECOND_READ,
+        Case {
+            input: b"3\n4\n",
+            out: b"9\n",
+            message: NO_READ,
+            ..FAILED
+        },
+    ),
+    (
+        SECOND_WRITE,
+        Case {
+            input: b"3037000499\n",
+            out: b"922",
+            message: NO_WRITE,
+            ..FAILED
+        },
+    ),
+    (FIRST_FETCH, FAILED),
+    (
+        SECOND_WRITE,
+        Case {
+            words: CHECK,
+            out: b"mue",
+            message: NO_WRITE,
+            ..FAILED
+        },
+    ),
+    (
+        FIRST_FETCH,
+        Case {
+            words: CHECK,
+            ..FAILED
+        },
+    ),
+    // The status is that of the run, whether or not it can be told.
+    (
+        FIRST_MESSAGE,
+        Case {
+            script: "muesli 1;\n",
+            message: b"",
+            code: 2,
+            ..FAILED
+        },
+    ),
+];
 
 #[test]
 fn a_failing_call_ends_the_run(rt: HostRuntime) -> Result<(), Fail> {
-    let second_read = Outside {
-        read_piece: 2,
-        reads: &[2],
-        ..WORKING
-    };
-    let left = run(rt.alloc(), SEQ, SQUARE, b"3\n4\n", &second_read)?;
-    assert_eq!(rt; left.status.code(), 3);
-    assert_eq!(rt; left.out.held(), b"9\n".as_slice());
-    assert_eq!(rt; left.err.held(), b"muesli: read fault\n".as_slice());
-
-    let second_write = Outside {
-        write_piece: 3,
-        writes: &[2],
-        ..WORKING
-    };
-    let left = run(rt.alloc(), SEQ, SQUARE, b"3037000499\n", &second_write)?;
-    assert_eq!(rt; left.status.code(), 3);
-    assert_eq!(rt; left.out.held(), b"922".as_slice());
-    assert_eq!(rt; left.err.held(), b"muesli: write fault\n".as_slice());
-
-    let first_fetch = Outside {
-        fetches: &[1],
-        ..WORKING
-    };
-    let left = run(rt.alloc(), SEQ, SQUARE, b"3\n", &first_fetch)?;
-    assert_eq!(rt; left.status.code(), 3);
-    assert_eq!(rt; left.err.held(), b"muesli: cannot read script\n".as_slice());
-
-    let no_message = Outside {
-        messages: &[1],
-        ..WORKING
-    };
-    let left = run(rt.alloc(), SEQ, "muesli 1;\n", b"3\n", &no_message)?;
-    assert_eq!(rt; left.status.code(), 2);
-    assert_eq!(rt; left.err.held(), b"".as_slice());
+    for (outside, case) in FAILING {
+        meet_over(&rt, rt.alloc(), outside, case)?;
+    }
     Ok(())
 }
 
-#[test]
-fn a_failing_call_ends_the_check(rt: HostRuntime) -> Result<(), Fail> {
-    let second_write = Outside {
-        write_piece: 3,
-        writes: &[2],
-        ..WORKING
-    };
-    let left = run(rt.alloc(), CHECK, SQUARE, b"3\n", &second_write)?;
-    assert_eq!(rt; left.status.code(), 3);
-    assert_eq!(rt; left.out.held(), b"mue".as_slice());
-    assert_eq!(rt; left.err.held(), b"muesli: write fault\n".as_slice());
+const RECORDS: &[u8] = b"3\n4\n5\n";
 
-    let first_fetch = Outside {
-        fetches: &[1],
-        ..WORKING
+const RESULTS: &[u8] = b"9\n16\n25\n";
+
+// Whether a run over the records is done, or else is ended by a failing call, which is told, behind the beginning of the
+// results.
+fn is_done(rt: &impl Abort, left: &Left, message: &[u8]) -> bool {
+    let (code, out, told) = (left.status.code(), left.out.held(), left.err.held());
+    let done = code == 0;
+    let is_told = if done {
+        told.is_empty() && out == RESULTS
+    } else {
+        code == 3 && told == message && RESULTS.starts_with(out)
     };
-    let left = run(rt.alloc(), CHECK, SQUARE, b"3\n", &first_fetch)?;
-    assert_eq!(rt; left.status.code(), 3);
-    assert_eq!(rt; left.err.held(), b"muesli: cannot read script\n".as_slice());
-    Ok(())
+    assert!(rt; is_told, "status {code}");
+    done
 }
 
-// The number of the failing read is counted upwards until a run is done, and so is that of the failing write or
-// flush.
+// More calls than a run makes, its flush counted.
+const CALLS: u64 = 12;
+
+// The number of the failing read is counted upwards until a run is done.
 #[test]
-fn every_failing_call_is_told(rt: HostRuntime) -> Result<(), Fail> {
-    let text = b"9\n16\n25\n".as_slice();
+fn every_failing_read_is_told(rt: HostRuntime) -> Result<(), Fail> {
     let mut done = false;
-    for n in 1..12u64 {
-        let reads = [n];
+    for n in 1..CALLS {
         let outside = Outside {
             read_piece: 2,
-            reads: &reads,
+            reads: &[n],
             ..WORKING
         };
-        let left = run(rt.alloc(), SEQ, SQUARE, b"3\n4\n5\n", &outside)?;
-        assert!(rt; text.starts_with(left.out.held()), "read {n}");
-        if left.status.code() == 0 {
-            done = true;
-            assert_eq!(rt; left.out.held(), text, "read {n}");
-        } else {
-            assert!(rt; !done, "read {n}");
-            assert_eq!(rt; left.status.code(), 3, "read {n}");
-            assert_eq!(rt;
-                left.err.held(),
-                b"muesli: read fault\n".as_slice(),
-                "read {n}"
-            );
-        }
+        let left = run(rt.alloc(), SEQ, SQUARE, RECORDS, &outside)?;
+        let now = is_done(&rt, &left, NO_READ);
+        assert!(rt; now || !done, "read {n}");
+        done = now;
     }
     assert!(rt; done);
-    done = false;
-    for n in 1..12u64 {
-        let writes = [n];
+    Ok(())
+}
+
+// Likewise of the failing write or flush.
+#[test]
+fn every_failing_write_is_told(rt: HostRuntime) -> Result<(), Fail> {
+    let mut done = false;
+    for n in 1..CALLS {
         let outside = Outside {
             write_piece: 2,
-            writes: &writes,
+            writes: &[n],
             ..WORKING
         };
-        let left = run(rt.alloc(), SEQ, SQUARE, b"3\n4\n5\n", &outside)?;
-        assert!(rt; text.starts_with(left.out.held()), "write {n}");
-        if left.status.code() == 0 {
-            done = true;
-            assert_eq!(rt; left.out.held(), text, "write {n}");
-        } else {
-            assert!(rt; !done, "write {n}");
-            assert_eq!(rt; left.status.code(), 3, "write {n}");
-            assert_eq!(rt;
-                left.err.held(),
-                b"muesli: write fault\n".as_slice(),
-                "write {n}"
-            );
-        }
+        let left = run(rt.alloc(), SEQ, SQUARE, RECORDS, &outside)?;
+        let now = is_done(&rt, &left, NO_WRITE);
+        assert!(rt; now || !done, "write {n}");
+        done = now;
     }
     assert!(rt; done);
     Ok(())

@@ -1,20 +1,17 @@
 -- How a run comes to each of its ends.
 use Rattle.std.proofs.Common.{◌≡◌, ℕ, ◌+◌, ◌≤◌, List, [], ◌∷◌, ◌++◌, ap, sym, refl, ◌∙◌, subst, Bool, true, false, cond, Option, Some, None, Ok, Err, append_assoc, append-nil}
 use Rattle.msl_base.specs.declared.fault.Fault.{Fault}
-use Rattle.msl_base.specs.declared.fault.Fault.TheVariants as faults
 use Rattle.msl_base.specs.Streams.{Record, Outcome, done, failed, unread, Stream, stream, before, pointwise}
 use Rattle.msl_base.proofs.StreamLaws.{pointwise-good, pointwise-bad, before-before}
 use Rattle.msl_io.specs.Lines.{Row, row, rows_of, FirstRow, HasNoLf, reading, led_by, stream_of, part_of, reads, most_lines}
-use Rattle.msl_io.specs.Reader.{Reads, GivesRecord, stop_of}
+use Rattle.msl_io.specs.Reader.{GivesRecord}
 use Rattle.msl_io.specs.Text.{text, text_of}
-use Rattle.msl_io.specs.declared.lines.Line.{Line}
-use Rattle.msl_io.specs.declared.lines.Line.TheVariants as line
 use Rattle.msl_io.specs.declared.lines.Stop.{Stop}
 use Rattle.msl_io.specs.declared.lines.Stop.TheVariants as stop
 use Rattle.msl_io.proofs.Rows.{first_row, rows_of-ended, stream-row, part-row}
 use Rattle.msl_io.proofs.Told.{Part}
 use Rattle.msl_run.specs.Headline.{Ran}
-use Rattle.msl_run.specs.Steps.{next_of, Ends, AreLines, GoesOn, IsOver, StandsAt}
+use Rattle.msl_run.specs.Steps.{Ends, AreLines, GoesOn, IsOver, StandsAt}
 use Rattle.msl_run.specs.declared.status.Status.{Status}
 use Rattle.msl_run.specs.declared.status.Status.TheVariants.{Done, Usage, Library, ScriptLong, Script, Unbuilt, Stream as Faulted, Read, Write, Memory}
 
@@ -220,26 +217,3 @@ module _ (one : Record → Outcome) where
 
   pub over_write : (input left held now now' : List ℕ) → IsOver one input left held now → now' ≡ now → Wrote input left held now' Write
   over_write input left held now now' o same = (text o.made, same ∙ o.written, (o.made, done, [], sym o.whole, sym (append-nil (text o.made))))
-
--- ---- what an answer of the reader says
-
-pub ends_by : (answer : Line) (status : Status) (limit n : ℕ) (bytes after left : List ℕ) (stopped : Option Stop) → Err status ≡ next_of answer → Reads limit n bytes after left stopped answer → Ends limit n bytes left status
-ends_by (line.Rec r) status limit n bytes after left stopped e h = cc
-ends_by line.End status limit n bytes after left stopped e h = let same : status ≡ Done = cc in subst (Ends limit n bytes left) (sym same) h
-ends_by (line.BadRecord k) status limit n bytes after left stopped e h = let same : status ≡ Faulted (faults.BadRecord k) = cc in subst (Ends limit n bytes left) (sym same) h
-ends_by (line.LongLine k) status limit n bytes after left stopped e h = let same : status ≡ Faulted (faults.LongLine k) = cc in subst (Ends limit n bytes left) (sym same) h
-ends_by (line.WideRecord k) status limit n bytes after left stopped e h = let same : status ≡ Faulted (faults.WideRecord k) = cc in subst (Ends limit n bytes left) (sym same) h
-ends_by line.ManyLines status limit n bytes after left stopped e h = let same : status ≡ Faulted faults.ManyLines = cc in subst (Ends limit n bytes left) (sym same) h
-ends_by line.ReadFault status limit n bytes after left stopped e h = let same : status ≡ Read = cc in subst (Ends limit n bytes left) (sym same) h
-ends_by line.NoMemory status limit n bytes after left stopped e h = let same : status ≡ Memory = cc in subst (Ends limit n bytes left) (sym same) h
-
--- the reader had given a last line that no LF ends, and answers the end again
-pub end_again : (answer : Line) (status : Status) → stop_of answer ≡ Some stop.End → Err status ≡ next_of answer → status ≡ Done
-end_again (line.Rec r) status h e = cc
-end_again line.End status h e = cc
-end_again (line.BadRecord k) status h e = cc
-end_again (line.LongLine k) status h e = cc
-end_again (line.WideRecord k) status h e = cc
-end_again line.ManyLines status h e = cc
-end_again line.ReadFault status h e = cc
-end_again line.NoMemory status h e = cc

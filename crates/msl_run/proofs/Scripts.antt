@@ -6,15 +6,16 @@ use Rattle.msl_io.specs.Text.{AppendsPart}
 use Rattle.std.proofs.lemmas.Bool.{lt-leb}
 use Rattle.msl_base.specs.Streams.{pointwise}
 use Rattle.msl_io.specs.Fetching.{FileIs, IsLonger}
-use Rattle.msl_muscle.specs.declared.funs.Fun.{Fun}
+use Rattle.msl_fun.specs.declared.funs.Fun.{Fun}
 use Rattle.msl_lex.specs.declared.kind.Kind.{Kind}
-use Rattle.msl_muscle.specs.Reading.{Refusal}
-use Rattle.msl_script.specs.Script.{Script}
-use Rattle.msl_script.specs.declared.stage.Stage.TheVariants.{Atomic}
-use Rattle.msl_script.specs.Calls.{atomic_outcome}
-use Rattle.msl_script.specs.Runs.{SeqRuns, seq_run}
-use Rattle.msl_script.specs.ScriptGrammar.{ReadsAs}
-use Rattle.msl_script.specs.ScriptReading.{IsRefusedAs, most_bytes}
+use Rattle.msl_read.specs.Reading.{Refusal}
+use Rattle.msl_program.specs.Script.{Script}
+use Rattle.msl_program.specs.declared.stage.Stage.TheVariants.{Atomic}
+use Rattle.msl_program.specs.Calls.{atomic_outcome}
+use Rattle.msl_program.specs.Runs.{SeqRuns, seq_run}
+use Rattle.msl_grammar.specs.ScriptGrammar.{ReadsAs}
+use Rattle.msl_base.specs.declared.limits.TheConstants.{MOST_SCRIPT_BYTES}
+use Rattle.msl_script_read.specs.ScriptReading.{IsRefusedAs}
 use Rattle.msl_run.specs.declared.status.Status.{Status}
 use Rattle.msl_run.specs.declared.status.Status.TheVariants.{Done, Usage, Library, ScriptLong, Script as Refused, Unbuilt, Stream, Read, Write, Memory}
 use Rattle.msl_run.specs.Causes.{IsEnding, Rises, Count}
@@ -60,14 +61,14 @@ module _ (says : List ℕ → Ends → Status → Type 0) where
     pub refused : (text : List ℕ) (e : Ends) (kind : Kind) (at : ℕ) → IsRefusedAs text (kind, at) → says text e (Refused kind at)
 
   module _ (text : List ℕ) (e : Ends) (status : Status) where
-    short_file : length text ≤ most_bytes → says text e status → OfFile says (Some text) e status
-    short_file short h = subst (λ b. MatchBool b (says text e status) (IsTooLong e status)) (sym (le-leb (length text) most_bytes short)) h
+    short_file : length text ≤ MOST_SCRIPT_BYTES → says text e status → OfFile says (Some text) e status
+    short_file short h = subst (λ b. MatchBool b (says text e status) (IsTooLong e status)) (sym (le-leb (length text) MOST_SCRIPT_BYTES short)) h
 
-    pub of_short_file : length text ≤ most_bytes → OfFile says (Some text) e status → says text e status
-    of_short_file short h = subst (λ b. MatchBool b (says text e status) (IsTooLong e status)) (le-leb (length text) most_bytes short) h
+    pub of_short_file : length text ≤ MOST_SCRIPT_BYTES → OfFile says (Some text) e status → says text e status
+    of_short_file short h = subst (λ b. MatchBool b (says text e status) (IsTooLong e status)) (le-leb (length text) MOST_SCRIPT_BYTES short) h
 
-    long_file : most_bytes < length text → IsTooLong e status → OfFile says (Some text) e status
-    long_file long h = subst (λ b. MatchBool b (says text e status) (IsTooLong e status)) (sym (lt-leb (length text) most_bytes long)) h
+    long_file : MOST_SCRIPT_BYTES < length text → IsTooLong e status → OfFile says (Some text) e status
+    long_file long h = subst (λ b. MatchBool b (says text e status) (IsTooLong e status)) (sym (lt-leb (length text) MOST_SCRIPT_BYTES long)) h
 
     either_way : (b : Bool) → says text e status → IsTooLong e status → MatchBool b (says text e status) (IsTooLong e status)
     either_way true h l = h
@@ -81,8 +82,8 @@ module _ (says : List ℕ → Ends → Status → Type 0) where
   none_by : (none : SaysNone) (text : List ℕ) (e : Ends) (status : Status) → IsNoScript status → IsScriptOf (Some text) (Err status) → IsUntouched e → OfFile says (Some text) e status
   none_by none text e ScriptLong why is same = long_file text e ScriptLong is tt
   none_by none text e (Refused kind at) why is same = short_file text e (Refused kind at) is.0 (none.refused text e kind at is.1)
-  none_by none text e Library why is same = either_way text e Library (nat_le (length text) most_bytes) (none.library text e) tt
-  none_by none text e Memory why is same = either_way text e Memory (nat_le (length text) most_bytes) (none.memory text e same) same
+  none_by none text e Library why is same = either_way text e Library (nat_le (length text) MOST_SCRIPT_BYTES) (none.library text e) tt
+  none_by none text e Memory why is same = either_way text e Memory (nat_le (length text) MOST_SCRIPT_BYTES) (none.memory text e same) same
   none_by none text e Done why is same = absurd why
   none_by none text e (Stream f) why is same = absurd why
   none_by none text e Read why is same = absurd why
@@ -100,7 +101,7 @@ pub of_bytes : (file : Option (List ℕ)) (bytes : List ℕ) (r : Result Script 
 of_bytes None bytes r is h = tt
 of_bytes (Some text) bytes r is h = subst (λ t. IsScriptOf (Some t) r) is h
 
-pub of_long : (file : Option (List ℕ)) → IsLonger file most_bytes → IsScriptOf file (Err ScriptLong)
+pub of_long : (file : Option (List ℕ)) → IsLonger file MOST_SCRIPT_BYTES → IsScriptOf file (Err ScriptLong)
 of_long None h = tt
 of_long (Some text) h = h
 

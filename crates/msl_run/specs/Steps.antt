@@ -1,11 +1,12 @@
 -- How far a run has come, and what one step of it does.
-use Rattle.std.specs.Prelude.{ℕ, ◌≡◌, ◌≤◌, ◌⊎◌, List, [], ◌++◌, Option, Some, None, Result, Ok, Err, ⊤}
+use Rattle.std.specs.Prelude.{ℕ, ◌≡◌, ◌≤◌, ◌+◌, ◌⊎◌, List, [], ◌++◌, Option, Some, None, Result, Ok, Err, ⊤}
 use Rattle.std.specs.Io.KnownBytes.{Appends, Keeps}
 use Rattle.msl_base.specs.declared.fault.Fault.TheVariants as faults
 use Rattle.msl_base.specs.declared.rec.Rec.{Rec}
 use Rattle.msl_base.specs.Streams.{Record, Outcome, Stream, stream, before, done, failed, pointwise}
 use Rattle.msl_io.specs.Lines.{rows_of, stream_of, part_of, reads, most_lines}
-use Rattle.msl_io.specs.Reader.{IsCutOff}
+use Rattle.msl_io.specs.Known.{Told}
+use Rattle.msl_io.specs.Reader.{Reader, Counts, GivesRecord, IsCutOff}
 use Rattle.msl_io.specs.Text.{text, text_of, AppendsPart}
 use Rattle.msl_io.specs.Causes.{Rose}
 use Rattle.msl_io.specs.declared.lines.Line.{Line}
@@ -37,6 +38,27 @@ Ends limit n bytes left (Faulted f) = stream_of limit n (rows_of bytes) ≡ stre
 Ends limit n bytes left Read = IsCutOff limit n bytes left
 Ends limit n bytes left Memory = ⊤
 Ends limit n bytes left _ = ⊥
+
+-- how reading ends
+abbrev pub ReadEnds : Status → Type 0
+ReadEnds Done = ⊤
+ReadEnds (Faulted f) = ⊤
+ReadEnds Read = ⊤
+ReadEnds Memory = ⊤
+ReadEnds _ = ⊥
+
+-- What was taken by a reader that goes on, or has given a last line that no LF ends: the next record, or how the run
+-- ends.
+abbrev pub Takes : Option Stop → Option (List ℕ) → Option (List ℕ) → Reader → Reader → Result Rec Status → Type 0
+Takes None left left' old new (Ok rec) =
+    Told left left' (λ l l'. GivesRecord most_lines (old.read + 1) (old.rest ++ l) (new.rest ++ l') new.stopped rec.numbers) × Counts old new (line.Rec rec)
+Takes None left left' old new (Err status) = Told left left' (λ l l'. Ends most_lines (old.read + 1) (old.rest ++ l) l' status)
+Takes (Some s) left left' old new (Ok rec) = ⊥
+Takes (Some s) left left' old new (Err status) = (status ≡ Done) × (left' ≡ left)
+
+-- the count never falls, and reading fails only where it rose
+abbrev pub TakeCause : Result Rec Status → ℕ → ℕ → Type 0
+TakeCause result before now = (before ≤ now) × (result ≡ Err Read → Rose before now)
 
 -- ---- one record
 

@@ -5,14 +5,15 @@ use Rattle.std.specs.Io.KnownBytes.{Appends}
 use Rattle.msl_lex.specs.Printing.{text_of}
 use Rattle.msl_run.specs.Causes.{Count, Rises, Stays}
 use Rattle.msl_run.specs.Headline.{RanTold}
-use Rattle.msl_script.specs.Script.{Script}
-use Rattle.msl_script.specs.declared.stage.Stage.{Stage}
-use Rattle.msl_script.specs.declared.stage.Stage.TheVariants.{Atomic}
-use Rattle.msl_script.specs.Need.{need}
-use Rattle.msl_script.specs.Runs.{SeqRuns}
-use Rattle.msl_script.specs.ScriptGrammar.{ReadsAs}
-use Rattle.msl_script.specs.ScriptText.{script_bits}
-use Rattle.msl_script.specs.ScriptReading.{IsRefusedAs, most_bytes}
+use Rattle.msl_program.specs.Script.{Script}
+use Rattle.msl_program.specs.declared.stage.Stage.{Stage}
+use Rattle.msl_program.specs.declared.stage.Stage.TheVariants.{Atomic}
+use Rattle.msl_program.specs.Need.{need}
+use Rattle.msl_program.specs.Runs.{SeqRuns}
+use Rattle.msl_grammar.specs.ScriptGrammar.{ReadsAs}
+use Rattle.msl_script_print.specs.ScriptText.{script_bits}
+use Rattle.msl_base.specs.declared.limits.TheConstants.{MOST_SCRIPT_BYTES}
+use Rattle.msl_script_read.specs.ScriptReading.{IsRefusedAs}
 use Rattle.msl_run.specs.declared.words.Command.{Command}
 use Rattle.msl_run.specs.declared.words.Command.TheVariants.{Seq, Check}
 use Rattle.msl_run.specs.declared.status.Status.{Status}
@@ -84,7 +85,7 @@ IsTooLong e _ = ⊥
 -- what is said of a text, for a file that the library may tell
 abbrev pub OfFile : (List ℕ → Ends → Status → Type 0) → Option (List ℕ) → Ends → Status → Type 0
 OfFile says None e status = ⊤
-OfFile says (Some text) e status = MatchBool (nat_le (length text) most_bytes) (says text e status) (IsTooLong e status)
+OfFile says (Some text) e status = MatchBool (nat_le (length text) MOST_SCRIPT_BYTES) (says text e status) (IsTooLong e status)
 
 -- ---- a check
 
@@ -123,9 +124,9 @@ IsNoScript _ = ⊥
 -- the script that a file reads as, or why it is none, where the library tells it
 abbrev pub IsScriptOf : Option (List ℕ) → Result Script Status → Type 0
 IsScriptOf None r = ⊤
-IsScriptOf (Some text) (Ok s) = (length text ≤ most_bytes) × ReadsAs text s
-IsScriptOf (Some text) (Err ScriptLong) = most_bytes < length text
-IsScriptOf (Some text) (Err (Refused kind at)) = (length text ≤ most_bytes) × IsRefusedAs text (kind, at)
+IsScriptOf (Some text) (Ok s) = (length text ≤ MOST_SCRIPT_BYTES) × ReadsAs text s
+IsScriptOf (Some text) (Err ScriptLong) = MOST_SCRIPT_BYTES < length text
+IsScriptOf (Some text) (Err (Refused kind at)) = (length text ≤ MOST_SCRIPT_BYTES) × IsRefusedAs text (kind, at)
 IsScriptOf (Some text) (Err _) = ⊤
 
 -- the count never falls, and has risen where the fetch failed
@@ -183,5 +184,5 @@ IsComplete _ = ⊥
 -- the command is on a file that is told, is not too long and reads as a script; to run it has to be built
 abbrev pub IsRunnable : Option Command → (List ℕ → Option (List ℕ)) → Type 0
 IsRunnable None file = ⊥
-IsRunnable (Some (Seq name)) file = (text : List ℕ) × (s : Script) × (file name ≡ Some text) × (length text ≤ most_bytes) × ReadsAs text s × IsBuilt s.main
-IsRunnable (Some (Check name)) file = (text : List ℕ) × (s : Script) × (file name ≡ Some text) × (length text ≤ most_bytes) × ReadsAs text s
+IsRunnable (Some (Seq name)) file = (text : List ℕ) × (s : Script) × (file name ≡ Some text) × (length text ≤ MOST_SCRIPT_BYTES) × ReadsAs text s × IsBuilt s.main
+IsRunnable (Some (Check name)) file = (text : List ℕ) × (s : Script) × (file name ≡ Some text) × (length text ≤ MOST_SCRIPT_BYTES) × ReadsAs text s

@@ -7,6 +7,24 @@ use msl_base::{Fault, Path};
 use msl_io::{Piece, Sink, write_text};
 use msl_lex::Kind;
 
+/// The longest reason is the list of the commands.
+const REASON: usize = 100;
+
+/// So long are the reasons of a refusal, and those that stand before a path.
+const SHORT_REASON: usize = 20;
+
+/// Before a reason stand `muesli: `, a place of at most ten bytes, a number of at most 20 and `: `.
+const PLACE: usize = 40;
+
+/// Before a path stand a place and a short reason.
+const UP_TO_PATH: usize = 60;
+
+/// A path has at most so many steps.
+const STEPS: usize = 64;
+
+/// A step has at most two digits, and each but the first a dot before it. A piece has room for that and a line's end.
+const WITH_PATH: usize = 260;
+
 /// Writes the message of a status, one line, and nothing after `Done`. A fault of the sink changes nothing else.
 pub fn tell<E: Sink>(err: &mut E, status: &Status)
     ensures { Tells status.now (E.held err.old) (E.held err.new) (E.faults err.old) (E.faults err.new) }
@@ -51,7 +69,7 @@ fn script_message(kind: Kind, at: u32) -> Piece
 // Why a script is refused.
 fn kind_text(kind: Kind) -> &'static [u8]
     ensures text { result.now ≡ kind_text kind }
-    ensures short { length result.now ≤ 20 }
+    ensures short { length result.now ≤ SHORT_REASON }
 {
     match kind {
         Kind::Expected => b"expected",
@@ -92,7 +110,7 @@ fn fault_message(fault: Fault) -> Piece
 }
 
 fn line(what: &[u8]) -> Piece
-    requires { length what.now ≤ 100 }
+    requires { length what.now ≤ REASON }
     ensures { result ≡ line_of what.now }
 {
     let mut piece = Piece::new();
@@ -106,7 +124,7 @@ fn line(what: &[u8]) -> Piece
 fn numbered(place: &[u8], number: u32) -> Piece
     requires { length place.now ≤ 10 }
     ensures text { result ≡ codes "muesli: " ++ place.now ++ decimal number ++ codes ": " }
-    ensures short { length result ≤ 40 }
+    ensures short { length result ≤ PLACE }
 {
     let mut piece = Piece::new();
     piece.push_bytes(b"muesli: ");
@@ -117,7 +135,7 @@ fn numbered(place: &[u8], number: u32) -> Piece
 }
 
 fn line_message(number: u32, what: &[u8]) -> Piece
-    requires { length what.now ≤ 100 }
+    requires { length what.now ≤ REASON }
     ensures { result ≡ line_of (at_line number what.now) }
 {
     let mut piece = numbered(b"line ", number);
@@ -127,7 +145,7 @@ fn line_message(number: u32, what: &[u8]) -> Piece
 }
 
 fn stage_message(stage: u32, what: &[u8]) -> Piece
-    requires { length what.now ≤ 100 }
+    requires { length what.now ≤ REASON }
     ensures { result ≡ line_of (at_stage stage what.now) }
 {
     let mut piece = numbered(b"stage ", stage);
@@ -150,7 +168,7 @@ fn shape_message(stage: u32, got: u64, want: u64) -> Piece
 }
 
 fn path_message(stage: u32, what: &[u8], path: &Path) -> Piece
-    requires { length what.now ≤ 20 }
+    requires { length what.now ≤ SHORT_REASON }
     ensures { result ≡ line_of (at_stage stage (what.now ++ path_text path.now)) }
 {
     let mut piece = numbered(b"stage ", stage);
@@ -163,10 +181,10 @@ fn path_message(stage: u32, what: &[u8], path: &Path) -> Piece
 // Appends a path: its steps with dots between, or `root`.
 fn push_path(piece: &mut Piece, steps: &[u8])
     requires steps { AreSteps steps.now }
-    requires few { length steps.now ≤ 64 }
-    requires room { length piece.old ≤ 60 }
+    requires few { length steps.now ≤ STEPS }
+    requires room { length piece.old ≤ UP_TO_PATH }
     ensures text { piece.new ≡ piece.old ++ path_text steps.now }
-    ensures room { length piece.new ≤ 260 }
+    ensures room { length piece.new ≤ WITH_PATH }
 {
     match steps {
         [] => piece.push_bytes(b"root"),
@@ -180,10 +198,10 @@ fn push_path(piece: &mut Piece, steps: &[u8])
 // Appends steps, a dot before each.
 fn push_dotted(piece: &mut Piece, steps: &[u8])
     requires steps { AreSteps steps.now }
-    requires few { length steps.now ≤ 63 }
-    requires room { length piece.old ≤ 62 }
+    requires few { length steps.now + 1 ≤ STEPS }
+    requires room { length piece.old ≤ UP_TO_PATH + 2 }
     ensures text { piece.new ≡ piece.old ++ dotted steps.now }
-    ensures room { length piece.new ≤ 260 }
+    ensures room { length piece.new ≤ WITH_PATH }
 {
     for step in steps {
         piece.push(b'.');

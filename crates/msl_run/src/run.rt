@@ -2,7 +2,7 @@ ghost use Rattle.std.specs.Prelude.{◌≡◌, ◌≤◌, ℕ, List, IfErr, IfOk
 ghost use Rattle.msl_io.specs.Causes.{Rose};
 ghost use Rattle.msl_run.specs.Causes.{count, Rises, HandsOn};
 ghost use Rattle.msl_run.specs.Messages.{Tells};
-ghost use Rattle.msl_script.specs.ScriptReading.{most_bytes};
+ghost use Rattle.msl_base.specs.declared.limits.TheConstants.{MOST_SCRIPT_BYTES};
 ghost use Rattle.msl_run.specs.TopCall.{command, ends, check_text, Checks, ChecksText, EndsCheck, FetchesScript, IsCheck, IsNoScript, IsScriptOf, OfFile, RunsBuilt, RunsCommand, RunsText, PlainCause, IsRefusal, IsComplete, IsRunnable};
 
 use crate::message::tell;
@@ -10,12 +10,10 @@ use crate::sequence::{flushed, run_atomic};
 use crate::status::Status;
 use crate::words::{Command, Words, WordsFault, command_of};
 use msl_base::NoMemory;
+use msl_base::limits::MOST_SCRIPT_BYTES;
 use msl_io::{Fetched, Library, Piece, Sink, Source, WriteFault, write_text};
 use msl_script::{Script, ScriptFault, Stage, need, print_script, read_script};
 use std::alloc::Global;
-
-/// How many bytes a script may have.
-const MOST_BYTES: usize = 1_048_576;
 
 /// Runs the command that the words are: fetches its script from `lib`; at `seq` reads records from `src` and writes
 /// results to `out`, at `check` reads nothing and writes the canonical text and the line with the need. It flushes
@@ -159,7 +157,7 @@ fn script_of<L: Library>(alloc: Global, name: &str, lib: &mut L) -> Result<Scrip
     ensures refusal { IfErr result IsNoScript }
     ensures cause { FetchesScript result (count (L.faults lib.old) (L.faults lib.new)) }
 {
-    match lib.fetch(alloc, name, MOST_BYTES) {
+    match lib.fetch(alloc, name, MOST_SCRIPT_BYTES) {
         Fetched::Bytes(text) => script_in(alloc, text.as_slice()),
         Fetched::Long => Err(Status::ScriptLong),
         Fetched::Failed => Err(Status::Library),
@@ -169,7 +167,7 @@ fn script_of<L: Library>(alloc: Global, name: &str, lib: &mut L) -> Result<Scrip
 
 // The script of a text, or why it is none.
 fn script_in(alloc: Global, text: &[u8]) -> Result<Script, Status>
-    requires { length text.now ≤ most_bytes }
+    requires { length text.now ≤ MOST_SCRIPT_BYTES }
     ensures script { IsScriptOf (Some text.now) result }
     ensures refusal { IfErr result IsNoScript }
     ensures read { IfErr result (λ s. s ≡ Status.Library → ⊥) }

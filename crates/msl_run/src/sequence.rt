@@ -1,16 +1,21 @@
-ghost use Rattle.std.specs.Prelude.{◌≡◌, ◌<◌, ◌≤◌, ℕ, length};
+ghost use Rattle.std.specs.Prelude.{◌≡◌, IfErr};
 ghost use Rattle.std.specs.Io.KnownBytes.{Keeps};
 ghost use Rattle.msl_base.specs.Streams.{pointwise};
-ghost use Rattle.msl_script.specs.Calls.{atomic_outcome};
+ghost use Rattle.msl_io.specs.Lines.{most_lines};
+ghost use Rattle.msl_io.specs.Reader.{MayGoOn};
+ghost use Rattle.msl_program.specs.Calls.{atomic_outcome};
 ghost use Rattle.msl_run.specs.Headline.{RanTold};
 ghost use Rattle.msl_run.specs.Causes.{StreamCause, IsEnding, HandsOn, count};
-ghost use Rattle.msl_run.specs.Steps.{next_of, Stepped, StepCause, Flushed};
+ghost use Rattle.msl_run.specs.Steps.{next_of, ReadEnds, Takes, TakeCause, Stepped, StepCause, Flushed};
 
 use crate::status::Status;
 use msl_base::{Fault, Rec};
 use msl_io::{Line, LineReader, Sink, Source, WriteFault, write_rec};
 use msl_muscle::{EvalFault, Muscle};
 use std::alloc::Global;
+
+/// No function has more results, so that those of a record stand in an array.
+const MOST_RESULTS: usize = 16;
 
 /// Runs one function over the records of a source, in their order.
 pub fn run_atomic<S: Source, K: Sink>(
@@ -28,7 +33,7 @@ pub fn run_atomic<S: Source, K: Sink>(
         return Status::Memory
     };
     'records: loop {
-        match next_record(reader.next(src)) {
+        match take_record(&mut reader, src) {
             Ok(rec) => match write_result(f, rec.as_slice(), out) {
                 Step::Written => reader.reuse(rec),
                 Step::Faulted(fault) => return flushed(out, Status::Stream(fault)),
@@ -38,6 +43,18 @@ pub fn run_atomic<S: Source, K: Sink>(
             Err(status) => return flushed(out, status),
         }
     }
+}
+
+// Reads the record to work on, or how the run ends.
+fn take_record<S: Source>(reader: &mut LineReader, src: &mut S) -> Result<Rec, Status>
+    requires going { MayGoOn reader.old.stopped }
+    requires lines { reader.old.lines ≡ most_lines }
+    ensures takes { Takes reader.old.stopped (S.left src.old) (S.left src.new) reader.old reader.new result }
+    ensures lines { reader.new.lines ≡ most_lines }
+    ensures ending { IfErr result ReadEnds }
+    ensures cause { TakeCause result (S.faults src.old) (S.faults src.new) }
+{
+    next_record(reader.next(src))
 }
 
 // The record to work on, or how the run ends.
@@ -84,7 +101,7 @@ fn write_result<K: Sink>(f: Muscle<'_>, xs: &[i64], out: &mut K) -> Step
     if xs.len() != params {
         return Step::Faulted(Fault::Shape(1, xs.len() as u64, params as u64));
     }
-    let mut ys = [0i64; 16];
+    let mut ys = [0i64; MOST_RESULTS];
     match f.eval(xs, &mut ys[..results]) {
         Ok(_) => match write_rec(out, &ys[..results]) {
             Ok(()) => Step::Written,

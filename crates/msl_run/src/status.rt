@@ -5,7 +5,7 @@ use msl_base::Fault;
 use msl_lex::Kind;
 
 /// How a run of the program ended.
-#[derive(Clone, Copy, Debug)]
+#[derive(Clone, Copy)]
 pub enum Status {
     /// At `seq` all records were read and all results written; at `check` all was written.
     Done,

@@ -9,7 +9,7 @@ use thiserror::Error;
 pub type Words = ListOf<Name>;
 
 /// What the words ask for.
-#[derive(Debug, Drop)]
+#[derive(Drop)]
 pub enum Command {
     /// Run the script of this name in the order of its input.
     Seq(Name),

@@ -1,25 +1,19 @@
-//! Scripts: what they say, and how a text is read as one.
+//! Scripts: their functions, data programs, filters, divisions and searches, and the stage that a stream goes through.
+//!
+//! `read_script` reads one from a text, or gives the first test that fails with its place; so each `Script` keeps all
+//! rules of the language. `print_script` writes it in its canonical form, and `need` says how many processes it needs.
+//!
+//! No code stands here. The specifications say what a text is read as (`ScriptGrammar`, `ScriptReading`), which rules a
+//! script keeps (`ScriptPromise`, with `Promises` and `ProgramPromise` for its definitions), how one is written
+//! (`ScriptText`), how many processes it needs (`Need`), and what it makes of a stream of records (`Runs`, over the
+//! meanings of `Data`, `Divide`, `Searches` and `Filters`, and with laws of them in `RunLaws`).
 #![tactic(auto)]
 
-mod data;
-mod fault;
-pub mod laws;
-mod print;
-mod processes;
-mod read;
-pub mod run_laws;
-mod script;
-mod stage;
-#[cfg(test)]
-mod tests;
-pub mod text_laws;
-
-pub use data::{Arg, Args, DataLine, DataLines, DataProg, DataProgs, DataStep, UseSpec};
-pub use fault::ScriptFault;
-pub use print::print_script;
-pub use processes::need;
-pub use read::read_script;
-pub use script::{
-    BnbSpec, BnbSpecs, DivCon, DivCons, FilterSpec, FilterSpecs, ItemKind, ItemKinds, Script,
+pub use msl_lex::Kind;
+pub use msl_program::{
+    Arg, Args, BnbSpec, BnbSpecs, DataLine, DataLines, DataProg, DataProgs, DataStep, DivCon,
+    DivCons, FilterSpec, FilterSpecs, ItemKind, ItemKinds, Script, Stage, Stages, UseSpec, need,
 };
-pub use stage::{Stage, Stages};
+pub use msl_read::ReadFault as ScriptFault;
+pub use msl_script_print::print_script;
+pub use msl_script_read::read_script;

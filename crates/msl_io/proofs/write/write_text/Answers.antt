@@ -1,6 +1,7 @@
 use Rattle.std.proofs.Common.{arith, ℕ, List, sym, subst}
 use Rattle.msl_io.specs.Writing.{Wrote}
-use Rattle.msl_io.proofs.Appending.{wrote_more, rest_of}
+use Rattle.msl_io.proofs.Appending.{wrote_more}
+use Rattle.msl_outside.proofs.Pieces.{rest_of}
 use Rattle.msl_io.proofs.write.write_text.Goals as goal
 
 pub loop-rest-preserved : goal.loop-rest-preserved

@@ -5,8 +5,8 @@ use Rattle.msl_lex.specs.Bytes.{is_digit}
 use Rattle.msl_lex.proofs.Numbers.{number_too_great}
 use Rattle.msl_lex.proofs.lexer.number.Goals as goal
 
-pub returns-then-value-gt-GREATEST_NUMBER : goal.returns-then-value-gt-GREATEST_NUMBER
-returns-then-value-gt-GREATEST_NUMBER c =
+pub returns-then-value-from : goal.returns-then-value-from
+returns-then-value-from c =
     let text = c.args.text.now in
     let i = c.loop-len.len in
     let more = prefix_len-drop_yes is_digit text i 0 c.loop-len-test.true (sym c.if-not-is_digit.ensures) in

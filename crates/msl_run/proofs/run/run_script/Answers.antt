@@ -1,5 +1,5 @@
 use Rattle.std.proofs.Common.{◌<◌, ◌∙◌, false, length, subst, sym}
-use Rattle.msl_script.specs.Fitting.{Fits}
+use Rattle.msl_program.specs.Fitting.{Fits}
 use Rattle.msl_run.specs.TopCall.{ends}
 use Rattle.msl_run.proofs.Scripts.{one_function}
 use Rattle.msl_run.proofs.run.run_script.Goals as goal

@@ -1,7 +1,7 @@
 use Rattle.std.proofs.Common.{◌≡◌, ◌+◌, ◌-◌, ◌≤◌, ◌++◌}
 use Rattle.msl_io.specs.Known.{Told}
 use Rattle.msl_io.specs.Reader.{MayGoOn}
-use Rattle.msl_script.specs.Calls.{atomic_outcome}
+use Rattle.msl_program.specs.Calls.{atomic_outcome}
 use Rattle.msl_run.specs.Steps.{StandsAt}
 use Rattle.msl_run.proofs.sequence.run_atomic.Given as goal
 

@@ -8,7 +8,7 @@ use Rattle.msl_base.proofs.path.Path.push.Goals as goal
 pub invariant_of-result : goal.invariant_of-result
 invariant_of-result c =
     let kept = c.self.invariant in
-    let room : c.self.inside.len < 64 = omega (arith, kept.front.within, c.if-self-eq64.false) in
+    let room : c.self.inside.len < 64 = omega (arith, kept.front.within, c.if-self-eq-MOST_LEVELS.false) in
     record {
       front = IsPadded-push 64 0 c.args.child c.self.inside.len c.self.inside.steps room kept.front;
       below = subst AreSteps (sym (take_more_set c.self.inside.steps c.self.inside.len c.args.child (omega (arith, kept.front.size_is))))

@@ -1,0 +1,2 @@
+pub mod FunText
+pub mod Writing

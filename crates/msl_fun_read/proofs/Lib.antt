@@ -1,0 +1,12 @@
+pub mod Bindings
+pub mod Callees
+pub mod Declarings
+pub mod Descent
+pub mod Fitting
+pub mod Fronts
+pub mod Namings
+pub mod Rules
+pub mod Suffixes
+pub mod Trees
+pub mod Turns
+pub mod Wholes

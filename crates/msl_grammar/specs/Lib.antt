@@ -1,0 +1,5 @@
+pub mod Known
+pub mod Uses
+pub mod ScriptGrammar
+pub mod Following
+pub mod Clauses

@@ -1,6 +1,0 @@
-use Rattle.std.proofs.Common.{◌≡◌, drop}
-use Rattle.msl_io.specs.Fetching.{bytes_under}
-use Rattle.msl_io.proofs.memory.find.Given as goal
-
-abbrev pub invariant-loop-file : goal.invariant-loop-file
-invariant-loop-file l = bytes_under (drop l.file-index l.files) l.name ≡ bytes_under l.files l.name

@@ -1,0 +1,9 @@
+pub mod WholeAnswers
+pub mod WholeBijections
+pub mod WholeEach
+pub mod WholeFolds
+pub mod WholeMoves
+pub mod WholeParts
+pub mod WholeRotations
+pub mod WholeTargets
+pub mod WholeUnique

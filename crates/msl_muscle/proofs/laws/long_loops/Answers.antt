@@ -1,5 +1,0 @@
-use Rattle.msl_muscle.proofs.Examples.{last_index}
-use Rattle.msl_muscle.proofs.laws.long_loops.Goals as goal
-
-pub returns : goal.returns
-returns c = λ n. last_index n

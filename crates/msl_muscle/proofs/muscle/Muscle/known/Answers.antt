@@ -1,7 +1,0 @@
-use Rattle.std.proofs.Common.{sym, subst}
-use Rattle.msl_muscle.specs.Checks.{AreFuns}
-use Rattle.msl_muscle.proofs.Functions.{funs_before}
-use Rattle.msl_muscle.proofs.muscle.Muscle.known.Goals as goal
-
-pub returns-clause-rules : goal.returns-clause-rules
-returns-clause-rules c = funs_before c.as_slice.result.now c.args.self.now.at (subst AreFuns (sym c.as_slice.ensures.list) c.as_slice.ensures.funs)

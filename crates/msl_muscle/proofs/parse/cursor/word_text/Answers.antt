@@ -1,5 +1,0 @@
-use Rattle.msl_muscle.proofs.Words.{word_is_text}
-use Rattle.msl_muscle.proofs.parse.cursor.word_text.Goals as goal
-
-pub unreachable-requires : goal.unreachable-requires
-unreachable-requires c = c.in-Err.ensures.cases.0 (word_is_text c.args.word.now c.requires)

@@ -1,8 +1,0 @@
-use Rattle.std.proofs.Common.{◌≡◌, drop}
-use Rattle.msl_muscle.specs.Writing.{seen}
-use Rattle.msl_muscle.proofs.Writings.{with_more_params}
-use Rattle.msl_muscle.proofs.text.Writer.params.Given as goal
-
--- with those that are left, each behind a comma
-abbrev pub invariant-loop-name : goal.invariant-loop-name
-invariant-loop-name l = with_more_params (drop l.name-index l.others) (seen l.self) ≡ with_more_params l.others (seen l.initial.self)

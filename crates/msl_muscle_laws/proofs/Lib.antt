@@ -1,0 +1,10 @@
+pub mod Examples
+pub mod PrintedCalls
+pub mod PrintedExprs
+pub mod PrintedForms
+pub mod PrintedFuns
+pub mod PrintedLayout
+pub mod PrintedLeft
+pub mod PrintedLevels
+pub mod PrintedNames
+pub mod PrintedTokens

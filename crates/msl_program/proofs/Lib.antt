@@ -1,0 +1,17 @@
+pub mod TreeLaws
+pub mod BestLaws
+pub mod BestOfLaws
+pub mod SeqLaws
+pub mod FarmLaws
+pub mod FilterLaws
+pub mod PipeLaws
+pub mod PrefixLaws
+pub mod StageShapes
+pub mod Needs
+pub mod Later
+pub mod Parts
+pub mod AlongLaws
+pub mod BranchLaws
+pub mod OneLaws
+pub mod ShapeLaws
+pub mod LineLaws

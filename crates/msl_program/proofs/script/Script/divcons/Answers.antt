@@ -1,0 +1,7 @@
+use Rattle.std.proofs.Common.{subst}
+use Rattle.msl_program.specs.ScriptPromise.{IsScript}
+use Rattle.msl_program.proofs.Parts.{divcons_fit}
+use Rattle.msl_program.proofs.script.Script.divcons.Goals as goal
+
+pub returns-clause-fit : goal.returns-clause-fit
+returns-clause-fit c = divcons_fit c.args.self.now (subst IsScript c.self.view_is c.self.invariant)

@@ -1,0 +1,4 @@
+pub mod Opens
+pub mod Words
+pub mod Cursors
+pub mod Parts

@@ -1,0 +1,5 @@
+use Rattle.msl_read.proofs.Words.{word_is_text}
+use Rattle.msl_read.proofs.cursor.word_text.Goals as goal
+
+pub unreachable-requires : goal.unreachable-requires
+unreachable-requires c = c.in-Err.ensures.cases.0 (word_is_text c.args.word.now c.requires)

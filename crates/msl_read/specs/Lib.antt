@@ -1,0 +1,5 @@
+pub mod Reading
+pub mod Refusals
+pub mod Front
+pub mod Kinds
+pub mod Parts

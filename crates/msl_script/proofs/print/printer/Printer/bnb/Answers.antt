@@ -1,7 +1,0 @@
-use Rattle.msl_script.proofs.Words.{next, on_ok}
-use Rattle.msl_script.proofs.print.printer.Printer.bnb.Goals as goal
-
-pub returns : goal.returns
-returns c =
-    on_ok c.close.result c.close.ensures
-    (λ last. next c.in_ok-open.ensures (next c.in_ok-function.ensures (next c.in_ok-function-2.ensures (next c.in_ok-function-3.ensures (next c.in_ok-function-4.ensures (next c.in_ok-function-5.ensures last))))))

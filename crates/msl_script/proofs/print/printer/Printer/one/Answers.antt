@@ -1,9 +1,0 @@
-use Rattle.std.proofs.Common.{[], ◌∷◌}
-use Rattle.msl_muscle.specs.FunText.{space}
-use Rattle.msl_script.proofs.Words.{these, next, on_ok}
-use Rattle.msl_script.proofs.print.printer.Printer.one.Goals as goal
-
-pub returns : goal.returns
-returns c =
-    on_ok c.named.result c.named.ensures
-    (λ last. next c.in_ok-words.ensures (next (these (space ∷ []) c.in_ok-put.ensures) (next c.in_ok-usage.ensures (next (these (space ∷ []) c.in_ok-put-2.ensures) last))))

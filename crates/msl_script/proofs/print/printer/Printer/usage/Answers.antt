@@ -1,5 +1,0 @@
-use Rattle.msl_script.proofs.Words.{next, on_ok}
-use Rattle.msl_script.proofs.print.printer.Printer.usage.Goals as goal
-
-pub returns : goal.returns
-returns c = on_ok c.args-2.result c.args-2.ensures (λ last. next c.in_ok-named.ensures (rw c.as_slice.ensures at last))

@@ -1,8 +1,0 @@
-use Rattle.std.proofs.Common.{◌≡◌, [], ◌∷◌, ◌++◌, map, drop}
-use Rattle.msl_muscle.specs.FunText.{space}
-use Rattle.msl_script.specs.Words.{word_bits}
-use Rattle.msl_script.proofs.Words.{left}
-use Rattle.msl_script.proofs.print.printer.Printer.words.Given as goal
-
-abbrev pub invariant-loop-word : goal.invariant-loop-word
-invariant-loop-word l = l.self ++ left (space ∷ []) (map word_bits (drop l.word-index l.others)) ≡ l.initial.self ++ left (space ∷ []) (map word_bits l.others)

@@ -1,9 +1,0 @@
-use Rattle.msl_script.specs.Searches.{first_best_outcome}
-use Rattle.msl_script.proofs.BestOfLaws.{first_best_is_best}
-use Rattle.msl_script.proofs.run_laws.first_best_is_best.Goals as goal
-
-pub returns-clause-first : goal.returns-clause-first
-returns-clause-first c = λ funs b stage x. first_best_is_best funs b stage x
-
-pub returns-clause-some : goal.returns-clause-some
-returns-clause-some c = λ funs b stage x. (first_best_outcome funs b stage x, first_best_is_best funs b stage x)

@@ -1,5 +1,0 @@
-use Rattle.msl_script.proofs.WholeScripts.{script_of_tokens, script_read}
-use Rattle.msl_script.proofs.run_laws.scripts_are_whole.Goals as goal
-
-pub returns : goal.returns
-returns c = record { promise = script_read; tokens = script_of_tokens; whole = λ text s is. (script_read text s is).whole }

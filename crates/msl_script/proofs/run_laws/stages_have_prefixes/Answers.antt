@@ -1,5 +1,0 @@
-use Rattle.msl_script.proofs.PrefixLaws.{stage_prefixes}
-use Rattle.msl_script.proofs.run_laws.stages_have_prefixes.Goals as goal
-
-pub returns : goal.returns
-returns c = λ s st h k. stage_prefixes s k st h

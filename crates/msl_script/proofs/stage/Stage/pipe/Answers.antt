@@ -1,5 +1,0 @@
-use Rattle.msl_script.proofs.StageShapes.{pipe_is}
-use Rattle.msl_script.proofs.stage.Stage.pipe.Goals as goal
-
-pub returns : goal.returns
-returns c = pipe_is c.args.stages

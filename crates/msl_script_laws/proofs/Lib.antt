@@ -1,0 +1,13 @@
+pub mod Canonicals
+pub mod Printed
+pub mod PrintedParts
+pub mod PrintedOperators
+pub mod PrintedUses
+pub mod PrintedSteps
+pub mod PrintedNames
+pub mod PrintedPrograms
+pub mod PrintedItems
+pub mod PrintedStages
+pub mod PrintedFunctions
+pub mod PrintedScripts
+pub mod Searched

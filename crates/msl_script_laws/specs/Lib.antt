@@ -1,0 +1,4 @@
+pub mod Rows
+pub mod Constructs
+pub mod Meanings
+pub mod Canonical
