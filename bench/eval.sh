@@ -4,9 +4,7 @@
 # Prints the least nanoseconds for a node of some rounds, and their ratio. Needs rustc.
 set -eu
 export LC_ALL=C
-top=$(cd "$(dirname "${BASH_SOURCE[0]}")/.." && pwd)
-work=$(mktemp -d)
-trap 'rm -rf "$work"' EXIT
+. "$(dirname "${BASH_SOURCE[0]}")/common.sh"
 rounds=${1:-9}
 
 # A record's evaluation begins 3 nodes and 7 in each turn.
@@ -24,7 +22,6 @@ rustc -O -o "$work/plain" "$top/bench/eval.rs"
 "$top/bin/muesli" seq "$work/loop.muesli" <"$work/records" >"$work/ours"
 "$work/plain" <"$work/records" >"$work/theirs"
 cmp "$work/ours" "$work/theirs"
-program=$top/crates/muesli/out/muesli
 
 # The nanoseconds for a node that one run takes.
 nanoseconds() {

@@ -5,9 +5,7 @@
 # Prints the least seconds of some rounds, their ratios and the peak memory of each. Needs rustc and GNU time.
 set -eu
 export LC_ALL=C
-top=$(cd "$(dirname "${BASH_SOURCE[0]}")/.." && pwd)
-work=$(mktemp -d)
-trap 'rm -rf "$work"' EXIT
+. "$(dirname "${BASH_SOURCE[0]}")/common.sh"
 rounds=${1:-15}
 
 script=$top/examples/square.muesli
@@ -19,7 +17,6 @@ head -n 1048576 <(cat "$work/one" "$work/one") | paste -sd ' ' >"$work/many"
 
 # The first call builds the program where it has to.
 "$top/bin/muesli" seq "$script" <"$work/one" >"$work/ours.out"
-program=$top/crates/muesli/out/muesli
 
 run() {
     if [ "$1" = muesli ]; then

@@ -1,14 +1,23 @@
-//! Records, names, paths and faults, the limits of the language, and what a stream of records is.
+//! What all other crates speak of: records, names, paths and faults, the limits of the language, and streams.
 //!
-//! - Each call on `Name`, `Rec`, `Small`, `Path` and `ListOf` is its list operation. `Path::push` answers none exactly at
-//!   64 steps; `Rec::push` fails only where no spare room is left; `position_named` and `position_among` find the first
-//!   place, and none exactly where there is no such name.
+//! - Each call on `Name`, `Rec`, `Small`, `Path` and `ListOf` is its list operation, and where memory runs out a list
+//!   or a record stays as it was. `Path::push` answers none exactly at 64 steps (`full`); `Rec::push` fails only where
+//!   no spare room is left (`err`).
+//! - `position_named` and `position_among` find the first place of a name, and none exactly where there is no such
+//!   name.
+//! - `Fault` is why a stream ends before its end, by its line or its stage.
 //! - `limits` holds each limit once; code and definitions cite it from there.
-//! - `laws`: streams record by record, one output for one input, the law of prefixes, the order of the input as one of the
-//!   orders of a farm; how blocks of a list lie side by side; worked examples of streams.
+//! - `Streams` says what a stream is, and what it means to take one record by record, in order or by several workers.
+//!   `Blocks` says how the elements of a list lie in blocks.
+//! - `laws`: record by record there is one output for one input; what is made of a beginning begins what is made of the
+//!   whole; a whole output is sound; the order of the input is one of the orders of a farm; blocks lie side by side.
+//!   Worked examples of streams.
+//!
+//! No crate takes `Answer`, `Halt` and `End` so far.
 #![tactic(auto)]
 
 mod answer;
+mod blocks;
 mod fault;
 pub mod laws;
 pub mod limits;
@@ -19,6 +28,7 @@ mod rec;
 mod small;
 
 pub use answer::{Answer, Halt};
+pub use blocks::bounds;
 pub use fault::{End, Fault};
 pub use list_of::ListOf;
 pub use name::{Name, Named, NoMemory, position_among, position_named};

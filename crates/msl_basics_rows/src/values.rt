@@ -1,6 +1,6 @@
-//! Names, records, lists and paths.
+//! Names, records, lists, paths and blocks.
 
-use msl_base::{ListOf, Name, Path, Rec, Small};
+use msl_base::{ListOf, Name, Path, Rec, Small, bounds};
 use std::test::Fail;
 
 #[test]
@@ -45,5 +45,41 @@ fn a_small_is_its_list(rt: HostRuntime) {
     for numbers in [[].as_slice(), [1, -2, 3].as_slice()] {
         assert!(rt; numbers.len() <= 16);
         assert_eq!(rt; Small::of(numbers).as_slice(), numbers);
+    }
+}
+
+// How many elements, in how many blocks, and where some of the blocks begin.
+const BLOCKS: &[(u64, u64, &[(u64, u64)])] = &[
+    (10, 3, &[(0, 0), (1, 4), (2, 7), (3, 10)]),
+    (2, 3, &[(0, 0), (1, 1), (2, 2), (3, 2)]),
+    (0, 3, &[(0, 0), (1, 0), (2, 0), (3, 0)]),
+    (5, 1, &[(0, 0), (1, 5)]),
+    (
+        1_000_000,
+        1_024,
+        &[
+            (0, 0),
+            (1, 977),
+            (576, 562_752),
+            (577, 563_728),
+            (1_023, 999_024),
+            (1_024, 1_000_000),
+        ],
+    ),
+    (
+        u64::MAX,
+        1_024,
+        &[(0, 0), (1, 18_014_398_509_481_984), (1_024, u64::MAX)],
+    ),
+];
+
+#[test]
+fn blocks_begin(rt: HostRuntime) {
+    for &(n, b, rows) in BLOCKS {
+        assert!(rt; 0 < b && b <= 1_024);
+        for &(j, want) in rows {
+            assert!(rt; j <= b);
+            assert_eq!(rt; bounds(n, b, j), want, "block {j} of {n} elements in {b}");
+        }
     }
 }

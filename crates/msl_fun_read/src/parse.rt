@@ -1,5 +1,6 @@
 ghost use Rattle.std.specs.Prelude.{◌≡◌, ◌<◌, [], length, map, Ok, IfOk, MatchResult};
-ghost use Rattle.msl_lex.specs.Lexemes.{AreTokensOf, lexeme_of};
+ghost use Rattle.msl_lex.specs.Layout.{AreTokensOf};
+ghost use Rattle.msl_lex.specs.Lexemes.{lexeme_of};
 ghost use Rattle.msl_fun.specs.Checks.{MayFollow};
 ghost use Rattle.msl_fun_read.specs.Grammar.{read_fun};
 ghost use Rattle.msl_fun_read.specs.Parse.{IsFunAt};

@@ -1,7 +1,7 @@
 //! Reads texts of functions, and says why they are refused.
 
 ghost use Rattle.std.specs.Prelude.{◌<◌, length, IfOk};
-ghost use Rattle.msl_lex.specs.Lexemes.{AreTokensOf};
+ghost use Rattle.msl_lex.specs.Layout.{AreTokensOf};
 
 use msl_lex::{Tokens, lex};
 use msl_muscle::{Funs, ParseFault, parse_fun};

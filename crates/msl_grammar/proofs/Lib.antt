@@ -1,3 +1,4 @@
 pub mod Exits
 pub mod Leaves
 pub mod FilterLeaves
+pub mod Texts

@@ -31,7 +31,9 @@ use Rattle.msl_base.specs.declared.limits.TheConstants.{LEAST_PARTS, MOST_BLOCKS
 use Rattle.msl_lex.specs.declared.token.LexFault.{LexFault}
 use Rattle.msl_lex.specs.declared.token.LexFault.TheVariants as fault
 use Rattle.msl_lex.specs.declared.kind.Kind.TheVariants as kind
-use Rattle.msl_lex.specs.Lexemes.{Form, Lexeme, word, number, close, lexemes}
+use Rattle.msl_lex.specs.Computing.{lexemes}
+use Rattle.msl_lex.specs.Layout as layout
+use Rattle.msl_lex.specs.Lexemes.{Form, Lexeme, word, number, close}
 use Rattle.msl_ops.specs.declared.op.Op.{Op}
 use Rattle.msl_ops.specs.declared.op.OpKind.{OpKind}
 use Rattle.msl_ops.specs.declared.op.OpKind.TheVariants.{Sum}
@@ -453,9 +455,15 @@ of_tokens (Err (fault.LongName at)) = Err (kind.LongName, at)
 of_tokens (Err (fault.Number at)) = Err (kind.Number, at)
 of_tokens (Err fault.NoMemory) = Err (kind.Byte, 0)
 
--- the script that a text reads as, or its first refusal
-abbrev pub script_of_text : List ℕ → Result Script Refusal
-script_of_text text = of_tokens (lexemes text)
+-- a text is read as a script, or has this first refusal: by the lexemes that it is laid out as
+pub record ReadsTo (text : List ℕ) (r : Result Script Refusal) : Type 0 where
+  pub said : Result (List Lexeme) LexFault
+  pub laid : layout.ReadsAs 0 text said
+  pub read : of_tokens said ≡ r
 
 abbrev pub ReadsAs : List ℕ → Script → Type 0
-ReadsAs text s = script_of_text text ≡ Ok s
+ReadsAs text s = ReadsTo text (Ok s)
+
+-- the same computed, for worked examples
+abbrev pub script_of_text : List ℕ → Result Script Refusal
+script_of_text text = of_tokens (lexemes text)

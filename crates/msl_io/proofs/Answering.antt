@@ -1,96 +1,111 @@
 -- What the reader's answers say of the bytes that it took.
-use Rattle.std.proofs.Common.{arith, ◌≡◌, ℕ, ◌<◌, ◌≤◌, List, [], ◌∷◌, ◌++◌, length, ◌==◌, ap, sym, refl, ◌∙◌, subst, Bool, true, false, append_assoc, append-nil, length-append}
+use Rattle.std.proofs.Common.{arith, ◌≡◌, ℕ, ◌<◌, ◌≤◌, List, [], ◌∷◌, ◌++◌, length, ◌==◌, ap, sym, ◌∙◌, subst, Bool, true, false, if◌then◌else◌, Option, Some, None, Err, refl, append_assoc, append-nil, length-append}
 use Rattle.std.proofs.lemmas.Bool.Decides.{nat_tests}
+use Rattle.msl_base.specs.declared.fault.Fault.{Fault}
 use Rattle.msl_base.specs.declared.fault.Fault.TheVariants as faults
+use Rattle.msl_base.specs.declared.rec.Rec.{Rec}
+use Rattle.msl_base.specs.Streams.{stream, failed}
+use Rattle.msl_io.specs.declared.chunk.TheConstants.{CHUNK_BYTES}
 use Rattle.msl_io.specs.declared.chunk.Filled.TheVariants as filled
-use Rattle.msl_io.specs.declared.lines.Answer.{Answer}
 use Rattle.msl_io.specs.declared.lines.Line.{Line}
-use Rattle.msl_io.specs.declared.lines.Line.TheVariants.{Rec, End, BadRecord, LongLine, WideRecord, ManyLines, ReadFault, NoMemory}
+use Rattle.msl_io.specs.declared.lines.Line.TheVariants as line
+use Rattle.msl_io.specs.declared.lines.Stop.{Stop}
+use Rattle.msl_io.specs.declared.lines.Stop.TheVariants as stop
 use Rattle.msl_io.specs.declared.text.Part.TheVariants as part
 use Rattle.msl_io.specs.declared.text.Text.{Text}
-use Rattle.msl_io.specs.Lines.{row, FirstRow, reading, most_bytes}
-use Rattle.msl_io.specs.Reader.{Reads, stop_of, IsCutOff, IsRefused}
-use Rattle.msl_io.specs.Taking.{Took, HasTaken, Fills, TakesPart, Gives, last_stop}
+use Rattle.msl_io.specs.Lines.{row, rows_of, FirstRow, reading, stream_of, most_bytes}
+use Rattle.msl_io.specs.Reader.{Before, After, Reads, IsEndOf, IsRefused, IsLong, IsCutOff}
+use Rattle.msl_io.specs.Taking.{Took, HasTaken, Fills, TakesPart, Gives}
 use Rattle.msl_io.proofs.Rows.{ended_first, unended_first, stream-refused, stream-many, stream-long, part-rest}
 use Rattle.msl_io.proofs.Taking.{HasNoLf-append}
-
--- ---- a line whose bytes were all taken
-
-module _ (limit n : ℕ) (bytes taken after left : List ℕ) (le : n ≤ limit) where
-  reads_ended : (line : Line) → FirstRow bytes (row taken true) after → Gives (reading n (row taken true)) line → Reads limit n bytes after left (stop_of line) line
-  reads_ended (Rec r) first g = record { line = row taken true; first = first; within = le; reads_as = g; stops = refl }
-  reads_ended End first g = absurd g
-  reads_ended (BadRecord k) first g = stream-refused limit n bytes after (row taken true) (faults.BadRecord k) le first g
-  reads_ended (LongLine k) first g = absurd g
-  reads_ended (WideRecord k) first g = stream-refused limit n bytes after (row taken true) (faults.WideRecord k) le first g
-  reads_ended ManyLines first g = absurd g
-  reads_ended ReadFault first g = absurd g
-  reads_ended NoMemory first g = tt
-
-  reads_last : (line : Line) → FirstRow bytes (row taken false) after → Gives (reading n (row taken false)) line → Reads limit n bytes after left (last_stop line) line
-  reads_last (Rec r) first g = record { line = row taken false; first = first; within = le; reads_as = g; stops = refl }
-  reads_last End first g = absurd g
-  reads_last (BadRecord k) first g = stream-refused limit n bytes after (row taken false) (faults.BadRecord k) le first g
-  reads_last (LongLine k) first g = absurd g
-  reads_last (WideRecord k) first g = stream-refused limit n bytes after (row taken false) (faults.WideRecord k) le first g
-  reads_last ManyLines first g = absurd g
-  reads_last ReadFault first g = absurd g
-  reads_last NoMemory first g = tt
 
 pub nonzero : (n : ℕ) → false ≡ (n == 0) → 0 < n
 nonzero n h = grind (arith, nat_tests)
 
+-- ---- a line whose bytes were all taken
+
+module _ (b : Before) (a : After) (taken : List ℕ) (ended : Bool) (le : b.number ≤ b.limit) (first : FirstRow b.bytes (row taken ended) a.bytes) (end : IsEndOf a.left b.bytes) where
+  refused_row : (f : Fault) → reading b.number (row taken ended) ≡ Err f → IsRefused b a f
+  refused_row f e = record { refused = stream-refused b.limit b.number b.bytes a.bytes (row taken ended) f le first e; taken = end.0; split = end.1 }
+
+  reads_row : (answer : Line) → ((r : Rec) → answer ≡ line.Rec r → a.stopped ≡ (if ended then None else Some stop.End)) → Gives (reading b.number (row taken ended)) answer → Reads b a answer
+  reads_row (line.Rec r) stops g = record { line = row taken ended; first = first; within = le; reads_as = g; stops = stops r refl }
+  reads_row line.End stops g = absurd g
+  reads_row (line.BadRecord k) stops g = refused_row (faults.BadRecord k) g
+  reads_row (line.LongLine k) stops g = absurd g
+  reads_row (line.WideRecord k) stops g = refused_row (faults.WideRecord k) g
+  reads_row line.ManyLines stops g = absurd g
+  reads_row line.ReadFault stops g = absurd g
+  reads_row line.NoMemory stops g = end
+
 -- ---- each answer, from what was taken and how the chunk was filled then
 
-pub answered : (limit n : ℕ) (bytes after left : List ℕ) (a b : Answer) → a ≡ b → Reads limit n bytes after left b.stop b.line → Reads limit n bytes after left a.stop a.line
-answered limit n bytes after left a b e r = subst (λ (x : Answer). Reads limit n bytes after left x.stop x.line) (sym e) r
+module _ (b : Before) (rest left rest' left' : List ℕ) (stopped : Option Stop) (t : Text) (k : Took b.bytes rest left t) (short : t.len ≤ most_bytes) where
+  -- what a chunk and the source have afterwards
+  abbrev pub having : List ℕ → After
+  having chunk = record { bytes = chunk ++ left'; left = left'; stopped = stopped }
 
-module _ (limit n : ℕ) (bytes rest left rest' left' : List ℕ) (t : Text) (k : Took bytes rest left t) (short : t.len ≤ most_bytes) where
-  all_taken : Fills filled.End rest left rest' left' → bytes ≡ k.taken
-  all_taken f = k.split ∙ ap (λ (xs : List ℕ). k.taken ++ xs) f.0 ∙ append-nil k.taken
-
-  pub answer_last : (line : Line) → n ≤ limit → 0 < t.len → Fills filled.End rest left rest' left'
-      → ((taken : List ℕ) (ended : Bool) → HasTaken taken t → length taken ≤ most_bytes → Gives (reading n (row taken ended)) line) → Reads limit n bytes (rest' ++ left') left' (last_stop line) line
-  answer_last line le some f gives =
+  pub answer_last : (answer : Line) → b.number ≤ b.limit → 0 < t.len → Fills filled.End rest left rest' left'
+      → ((taken : List ℕ) (ended : Bool) → HasTaken taken t → length taken ≤ most_bytes → Gives (reading b.number (row taken ended)) answer)
+      → ((r : Rec) → answer ≡ line.Rec r → stopped ≡ Some stop.End) → Reads b (having rest') answer
+  answer_last answer le some f gives stops =
+      let all : b.bytes ≡ k.taken = k.split ∙ ap (λ (xs : List ℕ). k.taken ++ xs) f.0 ∙ append-nil k.taken in
       let none : rest' ++ left' ≡ [] = ap (λ (xs : List ℕ). xs ++ left') f.1 ∙ f.2 in
-      let first = subst (λ (xs : List ℕ). FirstRow bytes (row k.taken false) xs) (sym none) (subst (λ (xs : List ℕ). FirstRow xs (row k.taken false) []) (sym (all_taken f)) (unended_first k.taken k.has.no_lf (omega (arith, k.has.len, some)))) in
-      reads_last limit n bytes k.taken (rest' ++ left') left' le line first (gives k.taken false k.has (omega (arith, k.has.len, short)))
+      let alone = unended_first k.taken k.has.no_lf (omega (arith, k.has.len, some)) in
+      let first = subst (λ (xs : List ℕ). FirstRow b.bytes (row k.taken false) xs) (sym none) (subst (λ (xs : List ℕ). FirstRow xs (row k.taken false) []) (sym all) alone) in
+      let end : IsEndOf left' b.bytes = (k.taken, k.split ∙ ap (λ (xs : List ℕ). k.taken ++ xs) (f.0 ∙ sym f.2)) in
+      reads_row b (having rest') k.taken false le first end answer stops (gives k.taken false k.has (omega (arith, k.has.len, short)))
 
-  pub answer_cut : (0 < t.len → n ≤ limit) → Fills filled.Fault rest left rest' left' → IsCutOff limit n bytes left'
+  pub answer_cut : (0 < t.len → b.number ≤ b.limit) → Fills filled.Fault rest left rest' left' → IsCutOff b (having rest')
   answer_cut room f = record {
     taken = k.taken;
     split = k.split ∙ ap (λ (xs : List ℕ). k.taken ++ xs) f;
     no_lf = k.has.no_lf;
-    unrefused = part-rest limit n k.taken k.has.no_lf (omega (arith, k.has.len, short)) (λ some. room (omega (arith, k.has.len, some)));
+    unrefused = part-rest b.limit b.number k.taken k.has.no_lf (omega (arith, k.has.len, short)) (λ some. room (omega (arith, k.has.len, some)));
   }
 
-  filled_split : Fills filled.Bytes rest left rest' left' → bytes ≡ k.taken ++ (rest' ++ left')
-  filled_split f = k.split ∙ ap (λ (xs : List ℕ). k.taken ++ xs) f
+  -- the chunk was filled
+  module _ (f : Fills filled.Bytes rest left rest' left') where
+    split : b.bytes ≡ (k.taken ++ rest') ++ left'
+    split = k.split ∙ ap (λ (xs : List ℕ). k.taken ++ xs) f ∙ sym (append_assoc k.taken rest' left')
 
-  pub answer_many : limit < n → 0 < length rest' → Fills filled.Bytes rest left rest' left' → Reads limit n bytes (rest' ++ left') left' (stop_of ManyLines) ManyLines
-  answer_many over some f =
-      stream-many limit n bytes (omega (arith, ap length (filled_split f), length-append k.taken (rest' ++ left'), length-append rest' left', some)) over
+    pub answer_none : IsEndOf left' b.bytes
+    answer_none = (k.taken ++ rest', split)
 
-  -- the chunk had a part of the line
-  part_split : (front back : List ℕ) → rest' ≡ front ++ back → Fills filled.Bytes rest left rest' left' → bytes ≡ (k.taken ++ front) ++ (back ++ left')
-  part_split front back e f =
-      filled_split f ∙ ap (λ (xs : List ℕ). k.taken ++ (xs ++ left')) e ∙ ap (λ (xs : List ℕ). k.taken ++ xs) (append_assoc front back left') ∙ sym (append_assoc k.taken front (back ++ left'))
+    pub answer_many : (chunk : List ℕ) → b.limit < b.number → 0 < length rest' → IsRefused b (having chunk) faults.ManyLines
+    answer_many chunk over some = record {
+      refused = stream-many b.limit b.number b.bytes (omega (arith, ap length split, length-append (k.taken ++ rest') left', length-append k.taken rest', some)) over;
+      taken = k.taken ++ rest';
+      split = split;
+    }
 
-  pub took_part : (u : Text) (rest'' : List ℕ) → Fills filled.Bytes rest left rest' left' → TakesPart part.More k.taken rest' u rest'' → Took bytes rest'' left' u
-  took_part u rest'' f p = record {
-    taken = k.taken ++ rest';
-    has = p.0;
-    split = part_split rest' [] (sym (append-nil rest')) f ∙ ap (λ (xs : List ℕ). (k.taken ++ rest') ++ (xs ++ left')) (sym p.1);
-  }
+    -- the chunk had a part of the line
+    part_split : (front back : List ℕ) → rest' ≡ front ++ back → b.bytes ≡ (k.taken ++ front) ++ (back ++ left')
+    part_split front back e =
+        split ∙ ap (λ (xs : List ℕ). (k.taken ++ xs) ++ left') e ∙ ap (λ (xs : List ℕ). xs ++ left') (sym (append_assoc k.taken front back)) ∙ append_assoc (k.taken ++ front) back left'
 
-  pub answer_ended : (line : Line) (u : Text) (rest'' : List ℕ) → n ≤ limit → u.len ≤ most_bytes → Fills filled.Bytes rest left rest' left' → TakesPart part.Ended k.taken rest' u rest''
-      → ((taken : List ℕ) (ended : Bool) → HasTaken taken u → length taken ≤ most_bytes → Gives (reading n (row taken ended)) line) → Reads limit n bytes (rest'' ++ left') left' (stop_of line) line
-  answer_ended line u rest'' le fits f (front, e, has) gives =
-      let line_bytes = k.taken ++ front in
-      let first = subst (λ (xs : List ℕ). FirstRow xs (row line_bytes true) (rest'' ++ left')) (sym (part_split front (10 ∷ rest'') e f)) (ended_first line_bytes (rest'' ++ left') has.no_lf) in
-      reads_ended limit n bytes line_bytes (rest'' ++ left') left' le line first (gives line_bytes true has (omega (arith, has.len, fits)))
+    pub took_part : (u : Text) (chunk : List ℕ) → TakesPart part.More k.taken rest' u chunk → Took b.bytes chunk left' u
+    took_part u chunk p = record {
+      taken = k.taken ++ rest';
+      has = p.0;
+      split = split ∙ ap (λ (xs : List ℕ). (k.taken ++ rest') ++ (xs ++ left')) (sym p.1);
+    }
 
-  pub answer_long : (u : Text) (rest'' : List ℕ) → n ≤ limit → Fills filled.Bytes rest left rest' left' → TakesPart part.Long k.taken rest' u rest'' → IsRefused limit n bytes (faults.LongLine n)
-  answer_long u rest'' le f (front, back, e, no_lf, long) =
-      subst (λ (xs : List ℕ). IsRefused limit n xs (faults.LongLine n)) (sym (part_split front back e f))
-      (stream-long limit n (k.taken ++ front) (back ++ left') le (HasNoLf-append k.taken front k.has.no_lf no_lf) (omega (arith, length-append k.taken front, long)))
+    pub answer_ended : (answer : Line) (u : Text) (chunk : List ℕ) → b.number ≤ b.limit → u.len ≤ most_bytes → TakesPart part.Ended k.taken rest' u chunk
+        → ((taken : List ℕ) (ended : Bool) → HasTaken taken u → length taken ≤ most_bytes → Gives (reading b.number (row taken ended)) answer)
+        → ((r : Rec) → answer ≡ line.Rec r → stopped ≡ None) → Reads b (having chunk) answer
+    answer_ended answer u chunk le fits (front, e, has) gives stops =
+        let bytes = k.taken ++ front in
+        let first = subst (λ (xs : List ℕ). FirstRow xs (row bytes true) (chunk ++ left')) (sym (part_split front (10 ∷ chunk) e)) (ended_first bytes (chunk ++ left') has.no_lf) in
+        reads_row b (having chunk) bytes true le first answer_none answer stops (gives bytes true has (omega (arith, has.len, fits)))
+
+    pub answer_long : (u : Text) (chunk : List ℕ) → b.number ≤ b.limit → length rest' ≤ CHUNK_BYTES → TakesPart part.Long k.taken rest' u chunk → IsLong b (having chunk) b.number
+    answer_long u chunk le few (front, back, e, no_lf, long) = record {
+      is = record {
+        refused = subst (λ (xs : List ℕ). stream_of b.limit b.number (rows_of xs) ≡ stream [] (failed (faults.LongLine b.number))) (sym (part_split front back e))
+            (stream-long b.limit b.number (k.taken ++ front) (back ++ left') le (HasNoLf-append k.taken front k.has.no_lf no_lf) (omega (arith, length-append k.taken front, long)));
+        taken = k.taken ++ rest';
+        split = split;
+      };
+      near = omega (arith, length-append k.taken rest', k.has.len, short, few);
+    }

@@ -1,7 +1,7 @@
 pub use Rattle.msl_outside.specs.Causes
 pub use Rattle.msl_outside.specs.Fetching
+pub use Rattle.msl_outside.specs.Known
 pub use Rattle.msl_outside.specs.Memory
-pub mod Known
 pub mod Lines
 pub mod Reader
 pub mod Taking

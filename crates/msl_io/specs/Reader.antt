@@ -1,15 +1,16 @@
 -- What contracts see of the reader of lines, and what one answer of it says.
-use Rattle.std.specs.Prelude.{ℕ, ◌≡◌, ◌+◌, ◌≤◌, if◌then◌else◌, List, [], ◌++◌, Option, Some, None, Ok, ⊤}
+use Rattle.std.specs.Prelude.{ℕ, ◌≡◌, ◌+◌, ◌≤◌, if◌then◌else◌, List, [], ◌++◌, length, Option, Some, None, Ok, ⊤}
 use Rattle.msl_base.specs.declared.fault.Fault.{Fault}
 use Rattle.msl_base.specs.declared.fault.Fault.TheVariants as faults
 use Rattle.msl_base.specs.Streams.{Record, failed, unread, stream}
+use Rattle.msl_io.specs.declared.chunk.TheConstants.{CHUNK_BYTES}
 use Rattle.msl_io.specs.declared.lines.Line.{Line}
 use Rattle.msl_io.specs.declared.lines.Line.TheVariants.{Rec, End, BadRecord, LongLine, WideRecord, ManyLines, ReadFault, NoMemory}
 use Rattle.msl_io.specs.declared.lines.Stop.{Stop}
 use Rattle.msl_io.specs.declared.lines.Stop.TheVariants as stop
-use Rattle.msl_io.specs.Known.{Told}
+use Rattle.msl_outside.specs.Known.{Told}
 use Rattle.msl_outside.specs.Causes.{Rose}
-use Rattle.msl_io.specs.Lines.{Row, FirstRow, HasNoLf, rows_of, reading, stream_of, part_of}
+use Rattle.msl_io.specs.Lines.{Row, FirstRow, HasNoLf, rows_of, reading, stream_of, part_of, most_bytes}
 
 -- the bytes that it has taken and not used, how many lines it has read, how many it will read at most, and why it
 -- reads no more
@@ -30,44 +31,74 @@ stop_of ManyLines = Some stop.ManyLines
 stop_of ReadFault = Some stop.ReadFault
 stop_of NoMemory = Some stop.NoMemory
 
--- The record of the first line, which has number n and is taken off. Behind a line that no LF ends the reader reads
--- no more.
-pub record GivesRecord (limit n : ℕ) (bytes after : List ℕ) (stopped : Option Stop) (numbers : Record) : Type 0 where
+-- ---- one answer
+
+-- before an answer: the greatest number of a line, the number of the next one, and the bytes that the reader holds and
+-- the source has left
+pub record Before : Type 0 where
+  pub limit : ℕ
+  pub number : ℕ
+  pub bytes : List ℕ
+
+-- afterwards: the bytes that both have, those of the source alone, and why the reader reads no more
+pub record After : Type 0 where
+  pub bytes : List ℕ
+  pub left : List ℕ
+  pub stopped : Option Stop
+
+-- The record of the first line, which is taken off. Behind a line that no LF ends the reader reads no more.
+pub record GivesRecord (b : Before) (a : After) (numbers : Record) : Type 0 where
   pub line : Row
-  pub first : FirstRow bytes line after
-  pub within : n ≤ limit
-  pub reads_as : reading n line ≡ Ok numbers
-  pub stops : stopped ≡ (if line.ended then None else Some stop.End)
+  pub first : FirstRow b.bytes line a.bytes
+  pub within : b.number ≤ b.limit
+  pub reads_as : reading b.number line ≡ Ok numbers
+  pub stops : a.stopped ≡ (if line.ended then None else Some stop.End)
 
--- the first line, which has number n, is refused
-abbrev pub IsRefused : ℕ → ℕ → List ℕ → Fault → Type 0
-IsRefused limit n bytes f = stream_of limit n (rows_of bytes) ≡ stream [] (failed f)
+-- what is left is an end of what was there
+abbrev pub IsEndOf : List ℕ → List ℕ → Type 0
+IsEndOf left bytes = (taken : List ℕ) × (bytes ≡ taken ++ left)
 
--- bytes were taken that have no whole line, and nothing in them is refused yet
-pub record IsCutOff (limit n : ℕ) (bytes left : List ℕ) : Type 0 where
+-- the first line is refused
+pub record IsRefused (b : Before) (a : After) (f : Fault) : Type 0 where
+  pub refused : stream_of b.limit b.number (rows_of b.bytes) ≡ stream [] (failed f)
   pub taken : List ℕ
-  pub split : bytes ≡ taken ++ left
+  pub split : b.bytes ≡ taken ++ a.left
+
+-- it is refused as too long, and at most what it may have and one chunk were taken
+pub record IsLong (b : Before) (a : After) (n : ℕ) : Type 0 where
+  pub is : IsRefused b a (faults.LongLine n)
+  pub near : length is.taken ≤ most_bytes + CHUNK_BYTES
+
+-- bytes were taken that have no whole line, and nothing in them is refused so far
+pub record IsCutOff (b : Before) (a : After) : Type 0 where
+  pub taken : List ℕ
+  pub split : b.bytes ≡ taken ++ a.left
   pub no_lf : HasNoLf taken
-  pub unrefused : part_of limit n (rows_of taken) ≡ stream [] unread
+  pub unrefused : part_of b.limit b.number (rows_of taken) ≡ stream [] unread
 
--- An answer, where `bytes` is what the reader held and the source had left before the call, and `after` what they
--- have afterwards, of which the source has `left`. The line has number n.
-abbrev pub Reads : ℕ → ℕ → List ℕ → List ℕ → List ℕ → Option Stop → Line → Type 0
-Reads limit n bytes after left stopped (Rec r) = GivesRecord limit n bytes after stopped r.numbers
-Reads limit n bytes after left stopped End = (bytes ≡ []) × (left ≡ [])
-Reads limit n bytes after left stopped (BadRecord k) = IsRefused limit n bytes (faults.BadRecord k)
-Reads limit n bytes after left stopped (LongLine k) = IsRefused limit n bytes (faults.LongLine k)
-Reads limit n bytes after left stopped (WideRecord k) = IsRefused limit n bytes (faults.WideRecord k)
-Reads limit n bytes after left stopped ManyLines = IsRefused limit n bytes faults.ManyLines
-Reads limit n bytes after left stopped ReadFault = IsCutOff limit n bytes left
-Reads limit n bytes after left stopped NoMemory = ⊤
+-- what each answer says
+abbrev pub Reads : Before → After → Line → Type 0
+Reads b a (Rec r) = GivesRecord b a r.numbers
+Reads b a End = (b.bytes ≡ []) × (a.left ≡ [])
+Reads b a (BadRecord n) = IsRefused b a (faults.BadRecord n)
+Reads b a (LongLine n) = IsLong b a n
+Reads b a (WideRecord n) = IsRefused b a (faults.WideRecord n)
+Reads b a ManyLines = IsRefused b a faults.ManyLines
+Reads b a ReadFault = IsCutOff b a
+Reads b a NoMemory = IsEndOf a.left b.bytes
 
--- the same, where the source tells its bytes
+-- a reader, and what its source has left
+abbrev pub before_of : Reader → List ℕ → Before
+before_of r left = record { limit = r.lines; number = r.read + 1; bytes = r.rest ++ left }
+
+abbrev pub after_of : Reader → List ℕ → After
+after_of r left = record { bytes = r.rest ++ left; left = left; stopped = r.stopped }
+
+-- an answer, where the source tells its bytes
 abbrev pub ReadsLine : Option (List ℕ) → Option (List ℕ) → Reader → Reader → Line → Type 0
-ReadsLine left left' old new line =
-    Told left left' (λ l l'. Reads old.lines (old.read + 1) (old.rest ++ l) (new.rest ++ l') l' new.stopped line)
+ReadsLine left left' old new line = Told left left' (λ l l'. Reads (before_of old l) (after_of new l') line)
 
--- behind a record the reader goes on, or has come to the end
+-- the reader goes on, or has come to the end
 abbrev pub MayGoOn : Option Stop → Type 0
 MayGoOn None = ⊤
 MayGoOn (Some stop.End) = ⊤
@@ -76,14 +107,21 @@ MayGoOn (Some _) = ⊥
 -- one more line was read, or the answer says why no more is
 abbrev pub Counts : Reader → Reader → Line → Type 0
 Counts old new (Rec r) = (new.read ≡ old.read + 1) × (new.read ≤ new.lines) × MayGoOn new.stopped
-Counts old new line = new.stopped ≡ stop_of line
+Counts old new End = new.stopped ≡ Some stop.End
+Counts old new (BadRecord n) = new.stopped ≡ Some (stop.BadRecord n)
+Counts old new (LongLine n) = new.stopped ≡ Some (stop.LongLine n)
+Counts old new (WideRecord n) = new.stopped ≡ Some (stop.WideRecord n)
+Counts old new ManyLines = new.stopped ≡ Some stop.ManyLines
+Counts old new ReadFault = new.stopped ≡ Some stop.ReadFault
+Counts old new NoMemory = new.stopped ≡ Some stop.NoMemory
 
--- the count of the source never falls, and has risen at a fault
+-- the count of the source rose at a fault, and is as before at any other answer
 abbrev pub ReadCause : Line → ℕ → ℕ → Type 0
-ReadCause ReadFault before now = (before ≤ now) × Rose before now
-ReadCause line before now = before ≤ now
-
--- a record takes the place of a line
-abbrev pub Fits : ℕ → ℕ → Line → Type 0
-Fits read limit (Rec r) = read + 1 ≤ limit
-Fits read limit line = ⊤
+ReadCause (Rec r) before now = now ≡ before
+ReadCause End before now = now ≡ before
+ReadCause (BadRecord n) before now = now ≡ before
+ReadCause (LongLine n) before now = now ≡ before
+ReadCause (WideRecord n) before now = now ≡ before
+ReadCause ManyLines before now = now ≡ before
+ReadCause ReadFault before now = Rose before now
+ReadCause NoMemory before now = now ≡ before

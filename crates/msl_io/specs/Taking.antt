@@ -1,5 +1,6 @@
 -- How a line is taken piece by piece out of a chunk and the source behind it.
 use Rattle.std.specs.Prelude.{ℕ, ℤ, ◌≡◌, ◌≤◌, ◌<◌, ◌+◌, ◌==◌, ◌||◌, Bool, true, false, min, if◌then◌else◌, List, [], ◌∷◌, ◌++◌, length, take, slice_index, All, Option, Some, None, Ok, Err, ⊤, ◌⊎◌}
+use Rattle.std.specs.Option.{option_or}
 use Rattle.std.specs.Char.{is_ascii_digit}
 use Rattle.std.specs.Str.Lines.{strip_carriage_return}
 use Rattle.std.specs.Str.Parse.{digits_value, AllDigits}
@@ -17,7 +18,7 @@ use Rattle.msl_io.specs.declared.words.Words.{Words}
 use Rattle.msl_io.specs.declared.lines.Stop.{Stop}
 use Rattle.msl_io.specs.declared.lines.Stop.TheVariants as stop
 use Rattle.msl_outside.specs.Causes.{Rose}
-use Rattle.msl_io.specs.Reader.{MayGoOn, stop_of}
+use Rattle.msl_io.specs.Reader.{Reader, stop_of}
 use Rattle.msl_io.specs.Lines.{HasNoLf, is_blank, words, numbers_of, most_bytes, most_numbers}
 
 -- ---- words
@@ -130,7 +131,8 @@ TakesPart part.NoMemory taken chunk t rest = ⊤
 abbrev pub PartFits : Part → ℕ → ℕ → Type 0
 PartFits part.More before now = (before < now) × (now ≤ most_bytes)
 PartFits part.Ended before now = now ≤ most_bytes
-PartFits other before now = ⊤
+PartFits part.Long before now = ⊤
+PartFits part.NoMemory before now = ⊤
 
 -- ---- chunks
 
@@ -142,12 +144,14 @@ Fills Fault rest left rest' left' = rest ++ left ≡ left'
 
 abbrev pub FillsSome : Filled → List ℕ → Type 0
 FillsSome Bytes rest = 0 < length rest
-FillsSome other rest = ⊤
+FillsSome End rest = ⊤
+FillsSome Fault rest = ⊤
 
--- the count never falls, and has risen at a fault
+-- the count rose at a fault, and is as before otherwise
 abbrev pub FillCause : Filled → ℕ → ℕ → Type 0
-FillCause Fault before now = (before ≤ now) × Rose before now
-FillCause other before now = before ≤ now
+FillCause Bytes before now = now ≡ before
+FillCause End before now = now ≡ before
+FillCause Fault before now = Rose before now
 
 -- how far a line was taken, out of all the bytes, before those of the chunk and those left
 pub record Took (bytes rest left : List ℕ) (t : Text) : Type 0 where
@@ -157,12 +161,10 @@ pub record Took (bytes rest left : List ℕ) (t : Text) : Type 0 where
 
 -- ---- answers
 
--- the reader reads no more behind a line that no LF ends
-abbrev pub last_stop : Line → Option Stop
-last_stop (line.Rec r) = Some stop.End
-last_stop other = stop_of other
+-- a reader between two answers
+abbrev pub reader : List ℕ → ℕ → ℕ → Option Stop → Reader
+reader rest read lines stopped = record { rest = rest; read = read; lines = lines; stopped = stopped }
 
--- every answer but a record stops the reader, and behind a record it goes on or has come to the end
-abbrev pub Stops : Line → Option Stop → Type 0
-Stops (line.Rec r) s = MayGoOn s
-Stops other s = s ≡ stop_of other
+-- behind a line that no LF ends the reader reads no more
+abbrev pub last_stop : Line → Option Stop
+last_stop answer = option_or (stop_of answer) (Some stop.End)

@@ -12,7 +12,11 @@ text_of numbers = join_with_byte 32 (map signed_decimal numbers) ++ 10 ∷ []
 abbrev pub text : List (List ℤ) → List ℕ
 text records = flat_map text_of records
 
--- known bytes grow by a front of these bytes, and not by all of them
+-- known bytes grow by a front of a text, maybe by all of it
+abbrev pub AppendsFront : Option (List ℕ) → Option (List ℕ) → List ℕ → Type 0
+AppendsFront held now text = (front : List ℕ) × (back : List ℕ) × (text ≡ front ++ back) × Appends held now front
+
+-- the same, and not by all of it
 abbrev pub AppendsPart : Option (List ℕ) → Option (List ℕ) → List ℕ → Type 0
-AppendsPart old new bytes =
-    (front : List ℕ) × (back : List ℕ) × (bytes ≡ front ++ back) × (0 < length back) × Appends old new front
+AppendsPart held now text =
+    (front : List ℕ) × (back : List ℕ) × (text ≡ front ++ back) × (0 < length back) × Appends held now front

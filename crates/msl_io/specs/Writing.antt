@@ -1,5 +1,5 @@
 -- How far a text is written.
-use Rattle.std.specs.Prelude.{ℕ, ℤ, ◌≡◌, ◌≤◌, List, [], ◌∷◌, ◌++◌, Option}
+use Rattle.std.specs.Prelude.{ℕ, ℤ, ◌≡◌, List, [], ◌∷◌, ◌++◌, Option}
 use Rattle.std.specs.Fmt.{signed_decimal}
 use Rattle.std.specs.Io.KnownBytes.{Appends}
 
@@ -9,14 +9,7 @@ others [] = 10 ∷ []
 others (x ∷ xs) = (32 ∷ signed_decimal x) ++ others xs
 
 -- a front of the text is written, and this rest of it is not
-pub record Wrote (held now : Option (List ℕ)) (faults faults_now : ℕ) (text rest : List ℕ) : Type 0 where
+pub record Wrote (held now : Option (List ℕ)) (text rest : List ℕ) : Type 0 where
   pub front : List ℕ
-  pub whole : text ≡ front ++ rest
-  pub appended : Appends held now front
-  pub later : faults ≤ faults_now
-
--- a front of a piece is written, and the rest is still in it
-pub record HandsOn (held now : Option (List ℕ)) (piece rest : List ℕ) : Type 0 where
-  pub front : List ℕ
-  pub split : piece ≡ front ++ rest
+  pub split : text ≡ front ++ rest
   pub appended : Appends held now front

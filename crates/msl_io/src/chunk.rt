@@ -1,5 +1,5 @@
 ghost use Rattle.std.specs.Prelude.{◌≡◌, [], IfOk, ◌≤◌, length, drop};
-ghost use Rattle.msl_io.specs.Known.{Told};
+ghost use Rattle.msl_outside.specs.Known.{Told};
 ghost use Rattle.msl_io.specs.Taking.{Fills, FillsSome, FillCause};
 
 use msl_base::NoMemory;
@@ -7,7 +7,8 @@ use msl_outside::Source;
 use std::alloc::Global;
 use std::marker::Model;
 
-const SIZE: usize = 4096;
+/// How many bytes a chunk may have.
+pub const CHUNK_BYTES: usize = 4096;
 
 /// How a chunk was filled.
 pub enum Filled {
@@ -30,12 +31,13 @@ pub struct Chunk {
 impl Model for Chunk {
     ghost use Rattle.std.specs.Prelude.{◌≡◌, ◌≤◌, ℕ, List, drop, take};
     ghost use Rattle.std.specs.Vec.{vec_len};
+    ghost use Rattle.msl_io.specs.declared.chunk.TheConstants.{CHUNK_BYTES};
 
     ghost Value = { List ℕ };
 
     ghost view = { λ c. drop c.from (take c.to c.bytes.items) };
 
-    ghost invariant = { λ c. (c.from ≤ c.to) × (c.to ≤ vec_len c.bytes) × (vec_len c.bytes ≡ 4096) };
+    ghost invariant = { λ c. (c.from ≤ c.to) × (c.to ≤ vec_len c.bytes) × (vec_len c.bytes ≡ CHUNK_BYTES) };
 }
 
 impl Chunk {
@@ -43,7 +45,7 @@ impl Chunk {
     pub fn new(alloc: Global) -> Result<Chunk, NoMemory>
         ensures { IfOk result (λ chunk. chunk ≡ []) }
     {
-        let bytes = vec![in alloc; 0u8; SIZE]?;
+        let bytes = vec![in alloc; 0u8; CHUNK_BYTES]?;
         Ok(Chunk {
             bytes,
             from: 0,
@@ -56,7 +58,7 @@ impl Chunk {
         ensures bytes { Told (S.left src.old) (S.left src.new) (λ left left'. Fills result self.old left self.new left') }
         ensures cause { FillCause result (S.faults src.old) (S.faults src.new) }
         ensures some { FillsSome result self.new }
-        ensures kept { length self.new ≤ 4096 }
+        ensures kept { length self.new ≤ CHUNK_BYTES }
     {
         if self.from < self.to {
             return Filled::Bytes;

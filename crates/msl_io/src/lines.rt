@@ -1,7 +1,7 @@
-ghost use Rattle.std.specs.Prelude.{◌≡◌, ◌+◌, ◌≤◌, [], ◌++◌, Some, None, IsNone, IsSome, IfOk, length};
-ghost use Rattle.msl_io.specs.Known.{Told};
-ghost use Rattle.msl_io.specs.Reader.{ReadsLine, stop_of, Counts, ReadCause, Reads, Fits};
-ghost use Rattle.msl_io.specs.Taking.{last_stop, Stops};
+ghost use Rattle.std.specs.Prelude.{◌≡◌, ◌+◌, ◌≤◌, [], Some, None, IsNone, IsSome, IfOk, length};
+ghost use Rattle.msl_io.specs.declared.chunk.TheConstants.{CHUNK_BYTES};
+ghost use Rattle.msl_io.specs.Reader.{ReadsLine, stop_of, Counts, ReadCause};
+ghost use Rattle.msl_io.specs.Taking.{reader, last_stop};
 
 use crate::chunk::{Chunk, Filled};
 use crate::text::{Part, Text};
@@ -133,15 +133,16 @@ impl LineReader {
     }
 
     /// The next line's record, or why there is none: the first that holds of `ManyLines`, `LongLine`, `BadRecord` and
-    /// `WideRecord`. A line that is too long is refused as soon as that shows, and any other is read to its end. Where
-    /// the source fails before that, nothing is said of the line. After any answer but a record, and after the record
-    /// of a last line that no LF ends, it reads no more: it gives the same answer, or `End`, from then on.
+    /// `WideRecord`. A line that is too long is refused with at most the limit and one chunk of 4,096 bytes taken,
+    /// counted from its first byte. `ReadFault` comes where the source counts a fault and nothing that was taken is
+    /// refused; no other answer passes a fault over. After any answer but a record, and after the record of a last
+    /// line that no LF ends, it reads no more: it gives the same answer, or `End`, from then on.
     pub fn next<S: Source>(&mut self, src: &mut S) -> Line
         ensures line { IsNone self.old.stopped → ReadsLine (S.left src.old) (S.left src.new) self.old self.new result }
         ensures cause { IsNone self.old.stopped → ReadCause result (S.faults src.old) (S.faults src.new) }
         ensures counts { IsNone self.old.stopped → Counts self.old self.new result }
         ensures lines { self.new.lines ≡ self.old.lines }
-        ensures kept { IsNone self.new.stopped → length self.new.rest ≤ 4096 }
+        ensures kept { IsNone self.new.stopped → length self.new.rest ≤ CHUNK_BYTES }
         ensures again { IsSome self.old.stopped → (stop_of result ≡ self.old.stopped) × (self.new ≡ self.old) × (src.new ≡ src.old) }
     {
         if let Some(stop) = self.stop {
@@ -206,11 +207,10 @@ fn read_line<S: Source>(
     lines: u32,
 ) -> Answer
     requires { read ≤ lines }
-    ensures line { Told (S.left src.old) (S.left src.new) (λ l l'. Reads lines (read + 1) (chunk.old ++ l) (chunk.new ++ l') l' result.stop result.line) }
+    ensures line { ReadsLine (S.left src.old) (S.left src.new) (reader chunk.old read lines None) (reader chunk.new (read + 1) lines result.stop) result.line }
     ensures cause { ReadCause result.line (S.faults src.old) (S.faults src.new) }
-    ensures fits { Fits read lines result.line }
-    ensures stops { Stops result.line result.stop }
-    ensures kept { length chunk.new ≤ 4096 }
+    ensures counts { Counts (reader chunk.old read lines None) (reader chunk.new (read + 1) lines result.stop) result.line }
+    ensures kept { length chunk.new ≤ CHUNK_BYTES }
 {
     let mut text = Text::new(alloc, room);
     'parts: loop {

@@ -2,7 +2,7 @@ ghost use Rattle.std.specs.Prelude.{OnOk, OnErr, ◌≡◌, ◌++◌, [], ◌∷
 ghost use Rattle.std.specs.Io.KnownBytes.{Appends};
 ghost use Rattle.msl_outside.specs.Causes.{HasCause};
 ghost use Rattle.msl_io.specs.Text.{text_of, AppendsPart};
-ghost use Rattle.msl_io.specs.Writing.{others, HandsOn};
+ghost use Rattle.msl_io.specs.Writing.{others, Wrote};
 
 use crate::piece::{self, Piece};
 use msl_outside::Sink;
@@ -50,7 +50,7 @@ fn write_others<K: Sink>(sink: &mut K, piece: &mut Piece, xs: &[i64]) -> Result<
 // Writes the piece where it has no room for one more number.
 fn make_room<K: Sink>(sink: &mut K, piece: &mut Piece) -> Result<(), WriteFault>
     requires { length piece.old + 1 ≤ 320 }
-    ensures ok { OnOk result (HandsOn (K.held sink.old) (K.held sink.new) piece.old piece.new) }
+    ensures ok { OnOk result (Wrote (K.held sink.old) (K.held sink.new) piece.old piece.new) }
     ensures room { OnOk result (length piece.new + 22 ≤ 320) }
     ensures err { OnErr result (AppendsPart (K.held sink.old) (K.held sink.new) piece.old) }
     ensures cause { HasCause (K.faults sink.old) (K.faults sink.new) result }

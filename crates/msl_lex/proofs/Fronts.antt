@@ -9,14 +9,14 @@ use Rattle.std.specs.Str.{bytes_eq}
 use Rattle.std.proofs.lemmas.Slice.Eq.{bytes_eq-Decides}
 use Rattle.std.proofs.lemmas.List.Folds.{list_any-append}
 use Rattle.std.proofs.Common.{inl, inr}
-use Rattle.msl_lex.specs.declared.lexer.Piece.{Piece}
-use Rattle.msl_lex.specs.declared.lexer.Piece.TheVariants as piece
+use Rattle.msl_lex.specs.Computing.{Front, front_at, word_at, number_at, sign_at}
+use Rattle.msl_lex.specs.Computing as computing
 use Rattle.msl_lex.specs.declared.token.TokenKind.{TokenKind}
 use Rattle.msl_lex.specs.declared.token.TokenKind.TheVariants as kind
 use Rattle.msl_lex.specs.declared.token.LexFault.{LexFault}
 use Rattle.msl_lex.specs.declared.token.LexFault.TheVariants.{Byte, LongName, Number}
 use Rattle.msl_lex.specs.Bytes.{is_blank, is_letter, is_digit, is_word_byte, is_comment_byte, is_short_sign, long_signs, short_signs, signs, value_of_digits}
-use Rattle.msl_lex.specs.Lexemes.{first_piece, word_at, number_at, sign_at, longest_name, greatest_number}
+use Rattle.msl_lex.specs.Lexemes.{longest_name, greatest_number}
 use Rattle.msl_lex.specs.Layout.{EndsLine, is_word, is_number, is_sign, spells, IsLongest, IsInLimits, IsFault, no_token, long_name, great_number}
 use Rattle.msl_lex.specs.Pieces.{IsWithin}
 
@@ -82,15 +82,15 @@ pub data IsSeparator (after : List ℕ) : List ℕ → Type 0 where
   one_comment : (inside : List ℕ) → list_all is_comment_byte inside ≡ true → EndsLine after → IsSeparator after (35 ∷ inside)
 
 -- what the first piece of a text says of its front and of what comes after
-abbrev pub FrontOf : ℕ → List ℕ → Result Piece LexFault → Type 0
-FrontOf at text (Ok (piece.Gap n)) = IsWithin text (piece.Gap n) × IsSeparator (drop n text) (take n text)
-FrontOf at text (Ok (piece.Token k n)) = IsWithin text (piece.Token k n) × IsLongest k (take n text) (drop n text) × IsInLimits k (take n text)
+abbrev pub FrontOf : ℕ → List ℕ → Result Front LexFault → Type 0
+FrontOf at text (Ok (computing.gap n)) = IsWithin text (computing.gap n) × IsSeparator (drop n text) (take n text)
+FrontOf at text (Ok (computing.token k n)) = IsWithin text (computing.token k n) × IsLongest k (take n text) (drop n text) × IsInLimits k (take n text)
 FrontOf at text (Err e) = IsFault at text e
 
-blank_front : (at c : ℕ) (cs : List ℕ) → is_blank c ≡ true → FrontOf at (c ∷ cs) (Ok (piece.Gap 1))
+blank_front : (at c : ℕ) (cs : List ℕ) → is_blank c ≡ true → FrontOf at (c ∷ cs) (Ok (computing.gap 1))
 blank_front at c cs e = ((omega arith, omega arith), one_blank c e)
 
-comment_front : (at : ℕ) (cs : List ℕ) → FrontOf at (35 ∷ cs) (Ok (piece.Gap (prefix_len is_comment_byte (35 ∷ cs))))
+comment_front : (at : ℕ) (cs : List ℕ) → FrontOf at (35 ∷ cs) (Ok (computing.gap (prefix_len is_comment_byte (35 ∷ cs))))
 comment_front at cs =
     let n = prefix_len-first is_comment_byte 35 cs refl in
     rw n ((omega arith, omega (arith, prefix_len-le-length is_comment_byte cs)), one_comment (take (prefix_len is_comment_byte cs) cs) (run_passes is_comment_byte cs) (ends_line cs))
@@ -112,7 +112,7 @@ module _ (p : ℕ → Bool) (c : ℕ) (cs : List ℕ) where
     longest = λ more rest split h. run_longest p cs more rest split (from (take run cs ++ more) h);
   }
 
-  run_within : IsWithin (c ∷ cs) (piece.Gap (suc run))
+  run_within : IsWithin (c ∷ cs) (computing.gap (suc run))
   run_within = (omega arith, omega (arith, prefix_len-le-length p cs))
 
   run_length : length (c ∷ take run cs) ≡ suc run
@@ -132,7 +132,7 @@ word_front at c cs e =
     let n : ℕ = prefix_len is_word_byte cs in
     let longest = run_longest_of is_word_byte c cs kind.Word (λ s. is_word_by c s e) (λ s. is_word_of c s e) in
     let size = run_length is_word_byte c cs in
-    if_by (FrontOf at (c ∷ cs)) (nat_lt longest_name (suc n)) (Err (LongName at)) (Ok (piece.Token kind.Word (suc n)))
+    if_by (FrontOf at (c ∷ cs)) (nat_lt longest_name (suc n)) (Err (LongName at)) (Ok (computing.token kind.Word (suc n)))
     (λ long. subst (λ t. IsFault at t (LongName at)) (whole is_word_byte c cs) (long_name (c ∷ take n cs) (drop n cs) longest (above longest_name (suc n) (length (c ∷ take n cs)) size long)))
     (λ short. (run_within is_word_byte c cs, longest, not_above longest_name (suc n) (length (c ∷ take n cs)) size short))
 
@@ -147,7 +147,7 @@ number_front at c cs e =
     let n : ℕ = prefix_len is_digit cs in
     let digits : List ℕ = c ∷ take n cs in
     let longest = run_longest_of is_digit c cs kind.Number (λ s. is_number_by c s e) (λ s. is_number_of c s e) in
-    if_by (FrontOf at (c ∷ cs)) (nat_lt greatest_number (value_of_digits digits)) (Err (Number at)) (Ok (piece.Token kind.Number (suc n)))
+    if_by (FrontOf at (c ∷ cs)) (nat_lt greatest_number (value_of_digits digits)) (Err (Number at)) (Ok (computing.token kind.Number (suc n)))
     (λ great. subst (λ t. IsFault at t (Number at)) (whole is_digit c cs) (great_number digits (drop n cs) longest (above greatest_number (value_of_digits digits) (value_of_digits digits) refl great)))
     (λ fits. (run_within is_digit c cs, longest, not_above greatest_number (value_of_digits digits) (value_of_digits digits) refl fits))
 
@@ -221,7 +221,7 @@ module _ (c : ℕ) (cs : List ℕ) (no_long : list_any (bytes_eq (take 2 (c ∷ 
         | inr short ↦ short_alone s rest (has_length 1 s one_byte_signs refl short) split short
       ]
 
-  pub short_front : (at : ℕ) → is_short_sign c ≡ true → FrontOf at (c ∷ cs) (Ok (piece.Token kind.Sign 1))
+  pub short_front : (at : ℕ) → is_short_sign c ≡ true → FrontOf at (c ∷ cs) (Ok (computing.token kind.Sign 1))
   unfolding one_byte_signs
   short_front at short = (
     (omega arith, omega arith),
@@ -259,7 +259,7 @@ module _ (c : ℕ) (cs : List ℕ) (letter : is_letter c ≡ false) (digit : is_
       let no : is_digit d ≡ false = ap is_digit same ∙ digit in
       sym (rw no at e)
 
-long_front : (at c : ℕ) (cs : List ℕ) → list_any (bytes_eq (take 2 (c ∷ cs))) long_signs ≡ true → FrontOf at (c ∷ cs) (Ok (piece.Token kind.Sign 2))
+long_front : (at c : ℕ) (cs : List ℕ) → list_any (bytes_eq (take 2 (c ∷ cs))) long_signs ≡ true → FrontOf at (c ∷ cs) (Ok (computing.token kind.Sign 2))
 long_front at c cs long =
     let size : length (take 2 (c ∷ cs)) ≡ 2 = has_length 2 (take 2 (c ∷ cs)) long_signs refl long in (
       (omega arith, omega (arith, length-take 2 (c ∷ cs))),
@@ -275,9 +275,9 @@ byte_front at c cs blank mark letter digit long short = no_token c cs blank (dif
 
 sign_front : (at c : ℕ) (cs : List ℕ) → is_blank c ≡ false → (c == 35) ≡ false → is_letter c ≡ false → is_digit c ≡ false → FrontOf at (c ∷ cs) (sign_at at c (c ∷ cs))
 sign_front at c cs blank mark letter digit =
-    if_by (FrontOf at (c ∷ cs)) (list_any (bytes_eq (take 2 (c ∷ cs))) long_signs) (Ok (piece.Token kind.Sign 2)) (if is_short_sign c then Ok (piece.Token kind.Sign 1) else Err (Byte at))
+    if_by (FrontOf at (c ∷ cs)) (list_any (bytes_eq (take 2 (c ∷ cs))) long_signs) (Ok (computing.token kind.Sign 2)) (if is_short_sign c then Ok (computing.token kind.Sign 1) else Err (Byte at))
     (long_front at c cs)
-    (λ no_long. if_by (FrontOf at (c ∷ cs)) (is_short_sign c) (Ok (piece.Token kind.Sign 1)) (Err (Byte at))
+    (λ no_long. if_by (FrontOf at (c ∷ cs)) (is_short_sign c) (Ok (computing.token kind.Sign 1)) (Err (Byte at))
     (short_front c cs no_long at)
     (byte_front at c cs blank mark letter digit no_long))
 
@@ -287,17 +287,17 @@ is_mark c h = grind (arith, nat_tests)
 is_word_byte-letter : (c : ℕ) → is_letter c ≡ true → is_word_byte c ≡ true
 is_word_byte-letter c h = rw h refl
 
-pub front_is : (at c : ℕ) (cs : List ℕ) → FrontOf at (c ∷ cs) (first_piece at (c ∷ cs))
+pub front_is : (at c : ℕ) (cs : List ℕ) → FrontOf at (c ∷ cs) (front_at at (c ∷ cs))
 front_is at c cs =
     let text : List ℕ = c ∷ cs in
     let sign = sign_at at c text in
     let number = number_at at (prefix_len is_digit text) text in
     let word = word_at at (prefix_len is_word_byte text) in
-    let comment : Result Piece LexFault = Ok (piece.Gap (prefix_len is_comment_byte text)) in
-    if_by (FrontOf at text) (is_blank c) (Ok (piece.Gap 1)) (if c == 35 then comment else if is_letter c then word else if is_digit c then number else sign)
+    let comment : Result Front LexFault = Ok (computing.gap (prefix_len is_comment_byte text)) in
+    if_by (FrontOf at text) (is_blank c) (Ok (computing.gap 1)) (if c == 35 then comment else if is_letter c then word else if is_digit c then number else sign)
     (blank_front at c cs)
     (λ blank. if_by (FrontOf at text) (c == 35) comment (if is_letter c then word else if is_digit c then number else sign)
-    (λ mark. subst (λ x. FrontOf at (x ∷ cs) (Ok (piece.Gap (prefix_len is_comment_byte (x ∷ cs))))) (sym (is_mark c mark)) (comment_front at cs))
+    (λ mark. subst (λ x. FrontOf at (x ∷ cs) (Ok (computing.gap (prefix_len is_comment_byte (x ∷ cs))))) (sym (is_mark c mark)) (comment_front at cs))
     (λ mark. if_by (FrontOf at text) (is_letter c) word (if is_digit c then number else sign)
     (λ letter. subst (λ n. FrontOf at text (word_at at n)) (sym (prefix_len-first is_word_byte c cs (is_word_byte-letter c letter))) (word_front at c cs letter))
     (λ letter. if_by (FrontOf at text) (is_digit c) number sign

@@ -1,12 +1,13 @@
 -- The lexemes of a text are those of its layout.
 use Rattle.std.proofs.Common.{◌≡◌, ℕ, zero, suc, ◌+◌, ◌<◌, ◌≤◌, List, [], ◌∷◌, ◌++◌, length, take, drop, refl, sym, subst, Result, Ok, Err, arith, append_assoc, append-nil, length-append}
 use Rattle.std.proofs.lemmas.List.{take-append-drop, length-take-le, length-drop}
-use Rattle.msl_lex.specs.declared.lexer.Piece.{Piece}
-use Rattle.msl_lex.specs.declared.lexer.Piece.TheVariants as piece
+use Rattle.msl_lex.specs.declared.token.LexFault.TheVariants.{Byte, LongName, Number, NoMemory}
+use Rattle.msl_lex.specs.Computing.{Front, front_at, lexemes, lexemes_from}
+use Rattle.msl_lex.specs.Computing as computing
 use Rattle.msl_lex.specs.declared.token.TokenKind.{TokenKind}
 use Rattle.msl_lex.specs.declared.token.LexFault.{LexFault}
-use Rattle.msl_lex.specs.Lexemes.{Lexeme, lexeme, form_of, first_piece, with_first, lexemes, lexemes_from}
-use Rattle.msl_lex.specs.Layout.{IsGap, none, blank, comment, IsLongest, IsInLimits, ReadsAs, ends, goes, stops}
+use Rattle.msl_lex.specs.Lexemes.{Lexeme, lexeme, form_of, with_first}
+use Rattle.msl_lex.specs.Layout.{IsRefusalOf, IsGap, none, blank, comment, IsLongest, IsInLimits, ReadsAs, ends, goes, stops}
 use Rattle.msl_lex.proofs.Fronts.{IsSeparator, one_blank, one_comment, FrontOf, front_is}
 use Rattle.msl_lex.proofs.Steps.{behind, lexemes_from-piece, lexemes_from-refused}
 
@@ -37,11 +38,11 @@ module _ (at n : ℕ) (text : List ℕ) (fits : n ≤ length text) (later : Read
       subst (λ t. ReadsAs at t (with_first (lexeme (form_of k (take n text)) at (at + n)) (behind at text n))) (take-append-drop n text)
       (goes at at (at + n) k [] (take n text) (drop n text) (behind at text n) none (omega arith) longest limits (omega (arith, length-take-le n text fits)) later)
 
-reads_piece : (at c : ℕ) (cs : List ℕ) (r : Result Piece LexFault) → first_piece at (c ∷ cs) ≡ r → FrontOf at (c ∷ cs) r → ((n : ℕ) → 0 < n → ReadsAs (at + n) (drop n (c ∷ cs)) (behind at (c ∷ cs) n)) → ReadsAs at (c ∷ cs) (lexemes_from 0 at (c ∷ cs))
-reads_piece at c cs (Ok (piece.Gap n)) e front later =
-    subst (λ r. ReadsAs at (c ∷ cs) r) (sym (lexemes_from-piece (piece.Gap n) at (c ∷ cs) e front.0)) (after_gap at n (c ∷ cs) front.0.1 (later n front.0.0) front.1)
-reads_piece at c cs (Ok (piece.Token k n)) e front later =
-    subst (λ r. ReadsAs at (c ∷ cs) r) (sym (lexemes_from-piece (piece.Token k n) at (c ∷ cs) e front.0)) (after_token at n (c ∷ cs) front.0.1 (later n front.0.0) k front.1 front.2)
+reads_piece : (at c : ℕ) (cs : List ℕ) (r : Result Front LexFault) → front_at at (c ∷ cs) ≡ r → FrontOf at (c ∷ cs) r → ((n : ℕ) → 0 < n → ReadsAs (at + n) (drop n (c ∷ cs)) (behind at (c ∷ cs) n)) → ReadsAs at (c ∷ cs) (lexemes_from 0 at (c ∷ cs))
+reads_piece at c cs (Ok (computing.gap n)) e front later =
+    subst (λ r. ReadsAs at (c ∷ cs) r) (sym (lexemes_from-piece (computing.gap n) at (c ∷ cs) e front.0)) (after_gap at n (c ∷ cs) front.0.1 (later n front.0.0) front.1)
+reads_piece at c cs (Ok (computing.token k n)) e front later =
+    subst (λ r. ReadsAs at (c ∷ cs) r) (sym (lexemes_from-piece (computing.token k n) at (c ∷ cs) e front.0)) (after_token at n (c ∷ cs) front.0.1 (later n front.0.0) k front.1 front.2)
 reads_piece at c cs (Err fault) e front later =
     subst (λ r. ReadsAs at (c ∷ cs) r) (sym (lexemes_from-refused at (c ∷ cs) fault (omega arith) e)) (stops at at [] (c ∷ cs) fault none (omega arith) front)
 
@@ -49,9 +50,19 @@ reads_from : (k at : ℕ) (text : List ℕ) → length text ≤ k → ReadsAs at
 reads_from k at [] h = ends at at [] none (omega arith)
 reads_from zero at (c ∷ cs) h = absurd (omega arith)
 reads_from (suc k) at (c ∷ cs) h =
-    reads_piece at c cs (first_piece at (c ∷ cs)) refl (front_is at c cs)
+    reads_piece at c cs (front_at at (c ∷ cs)) refl (front_is at c cs)
     (λ n some. reads_from k (at + n) (drop n (c ∷ cs)) (omega (arith, length-drop n (c ∷ cs))))
 
 -- each text is laid out as its lexemes, or up to its refusal
 pub reads_as_lexemes : (text : List ℕ) → ReadsAs 0 text (lexemes text)
 reads_as_lexemes text = reads_from (length text) 0 text (omega arith)
+
+-- what is computed of a text is laid out
+pub laid_out : (text : List ℕ) (r : Result (List Lexeme) LexFault) → lexemes text ≡ r → ReadsAs 0 text r
+laid_out text r e = subst (ReadsAs 0 text) e (reads_as_lexemes text)
+
+pub is_refusal : (text : List ℕ) (fault : LexFault) → lexemes text ≡ Err fault → IsRefusalOf text fault
+is_refusal text NoMemory e = tt
+is_refusal text (Byte at) e = laid_out text (Err (Byte at)) e
+is_refusal text (LongName at) e = laid_out text (Err (LongName at)) e
+is_refusal text (Number at) e = laid_out text (Err (Number at)) e

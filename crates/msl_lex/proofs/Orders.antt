@@ -5,9 +5,8 @@ use Rattle.msl_lex.specs.declared.token.Token.{Token}
 use Rattle.msl_lex.specs.declared.token.TokenKind.{TokenKind}
 use Rattle.msl_lex.specs.declared.token.TokenKind.TheVariants.{Word, Number, Sign, Close}
 use Rattle.msl_lex.specs.declared.token.LexFault.{LexFault}
-use Rattle.msl_lex.specs.Lexemes.{Lexeme, lexeme, form_of, close, lexeme_of, AreTokensOf}
-use Rattle.msl_lex.specs.Layout.{ReadsAs, ends, goes, stops}
-use Rattle.msl_lex.proofs.Layouts.{reads_as_lexemes}
+use Rattle.msl_lex.specs.Lexemes.{Lexeme, lexeme, form_of, close, lexeme_of}
+use Rattle.msl_lex.specs.Layout.{AreTokensOf, ReadsAs, ends, goes, stops}
 use Rattle.msl_lex.proofs.Said.{FirstSays, first_says, LoneSays, lone_says}
 use Rattle.msl_lex.proofs.Within.{not_close, has_byte}
 use Rattle.msl_lex.specs.Places.{AreInOrder, LiesWithin, ClosesLast}
@@ -76,4 +75,4 @@ closes_last at end (t ∷ u ∷ ts) h (suc k) d lt =
 pub tokens_in_order : (text : List ℕ) (tokens : List Token) → AreTokensOf text tokens → AreInOrder 0 (length text) tokens
 tokens_in_order text tokens h =
     let e : 0 + length text ≡ length text = omega arith in
-    subst (λ n. AreInOrder 0 n tokens) e (in_order text (reads_as_lexemes text) tokens h.said)
+    subst (λ n. AreInOrder 0 n tokens) e (in_order text h.said tokens refl)

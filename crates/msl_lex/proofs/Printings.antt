@@ -11,11 +11,13 @@ use Rattle.std.proofs.lemmas.List.Sums.{fold-append}
 use Rattle.msl_lex.specs.declared.token.TokenKind.{TokenKind}
 use Rattle.msl_lex.specs.declared.token.TokenKind.TheVariants as kind
 use Rattle.msl_lex.specs.Bytes.{is_blank, is_letter, is_digit, is_word_byte, long_signs, starts_long_sign, value_of_digits}
-use Rattle.msl_lex.specs.Lexemes.{Form, Lexeme, word, number, sign, close, lexeme, form_of, with_first, lexemes_from, longest_name, greatest_number}
+use Rattle.msl_lex.specs.Lexemes.{Form, Lexeme, word, number, sign, close, lexeme, form_of, with_first, longest_name, greatest_number}
+use Rattle.msl_lex.specs.Computing.{lexemes_from}
 use Rattle.msl_lex.specs.Layout.{none, is_word, is_number, is_sign, IsLongest, IsInLimits}
 use Rattle.msl_lex.specs.Layout as layout
 use Rattle.msl_lex.specs.Printing.{Bit, token, blank, spelling, text_of, forms_of, is_spellable, may_touch, is_laid, SaysAll}
 use Rattle.msl_lex.proofs.Fronts.{no_more, has_length, any_has, either, or_second, signs_split, one_length, one_byte_signs, sign_alone, short_sign, empty}
+use Rattle.msl_lex.proofs.Layouts.{laid_out}
 use Rattle.msl_lex.proofs.Readings.{both, begins_sign, sign_begins, gap_passed, lexemes_from-token}
 
 -- ---- the first byte of a text
@@ -356,4 +358,4 @@ says_from at (token f ∷ bits) h =
 
 -- the lexemes of a laid text are just its tokens, and its end
 pub laid_says_all : (bits : List Bit) → is_laid bits ≡ true → SaysAll bits
-laid_says_all bits h = let all = says_from 0 bits h in record { tokens = all.tokens; said = all.said; forms = all.forms }
+laid_says_all bits h = let all = says_from 0 bits h in record { tokens = all.tokens; said = laid_out (text_of bits) (Ok all.tokens) all.said; forms = all.forms }

@@ -5,13 +5,14 @@ use Rattle.std.proofs.lemmas.List.Folds.{list_all-append}
 use Rattle.std.proofs.lemmas.Bool.Decides.{nat_tests}
 use Rattle.std.specs.List.{prefix_len, list_all, list_any}
 use Rattle.std.specs.Str.{bytes_eq}
-use Rattle.msl_lex.specs.declared.lexer.Piece.TheVariants as piece
+use Rattle.msl_lex.specs.Computing as computing
 use Rattle.msl_lex.specs.declared.token.TokenKind.{TokenKind}
 use Rattle.msl_lex.specs.declared.token.TokenKind.TheVariants as kind
 use Rattle.msl_lex.specs.declared.token.LexFault.{LexFault}
 use Rattle.msl_lex.specs.declared.token.LexFault.TheVariants.{Byte, LongName, Number}
 use Rattle.msl_lex.specs.Bytes.{is_blank, is_letter, is_digit, is_word_byte, is_comment_byte, is_short_sign, long_signs, signs, value_of_digits}
-use Rattle.msl_lex.specs.Lexemes.{Lexeme, lexeme, close, form_of, first_piece, word_at, number_at, sign_at, with_first, lexemes_from, longest_name, greatest_number}
+use Rattle.msl_lex.specs.Lexemes.{Lexeme, lexeme, close, form_of, with_first, longest_name, greatest_number}
+use Rattle.msl_lex.specs.Computing.{front_at, word_at, number_at, sign_at, lexemes_from}
 use Rattle.msl_lex.specs.Layout.{EndsLine, IsGap, none, blank, comment, is_sign, spells, IsLongest, IsInLimits, IsFault, no_token, long_name, great_number, ReadsAs, ends, goes, stops}
 use Rattle.msl_lex.specs.Pieces.{IsWithin}
 use Rattle.msl_lex.proofs.Fronts.{prefix_len-first, any_has, has_length, one_length, one_byte_signs, either, signs_split, is_short, short_test}
@@ -50,12 +51,12 @@ line_over : (after : List ℕ) → EndsLine after → prefix_len is_comment_byte
 line_over [] e = refl
 line_over (c ∷ after) e = rw e refl
 
-comment_piece : (at : ℕ) (inside after : List ℕ) → list_all is_comment_byte inside ≡ true → EndsLine after → first_piece at (35 ∷ (inside ++ after)) ≡ Ok (piece.Gap (suc (length inside)))
+comment_piece : (at : ℕ) (inside after : List ℕ) → list_all is_comment_byte inside ≡ true → EndsLine after → front_at at (35 ∷ (inside ++ after)) ≡ Ok (computing.gap (suc (length inside)))
 comment_piece at inside after all e =
     let n = prefix_len-first is_comment_byte 35 (inside ++ after) refl ∙ ap suc (prefix_len-run is_comment_byte inside after (line_over after e) all) in
-    ap (λ (k : ℕ). Ok (piece.Gap k)) n
+    ap (λ (k : ℕ). Ok (computing.gap k)) n
 
-blank_piece : (at c : ℕ) (cs : List ℕ) → is_blank c ≡ true → first_piece at (c ∷ cs) ≡ Ok (piece.Gap 1)
+blank_piece : (at c : ℕ) (cs : List ℕ) → is_blank c ≡ true → front_at at (c ∷ cs) ≡ Ok (computing.gap 1)
 blank_piece at c cs e = rw e refl
 
 pub gap_passed : (after : List ℕ) {gap : List ℕ} → IsGap after gap → (at : ℕ) → lexemes_from 0 at (gap ++ after) ≡ lexemes_from 0 (at + length gap) after
@@ -63,12 +64,12 @@ gap_passed after none at = rw add-zero refl
 gap_passed after (blank c gap e g) at =
     let text : List ℕ = c ∷ (gap ++ after) in
     let place : at + 1 + length gap ≡ at + suc (length gap) = omega arith in
-    lexemes_from-piece (piece.Gap 1) at text (blank_piece at c (gap ++ after) e) (omega arith, omega arith) ∙ (gap_passed after g (at + 1) ∙ ap (λ (k : ℕ). lexemes_from 0 k after) place)
+    lexemes_from-piece (computing.gap 1) at text (blank_piece at c (gap ++ after) e) (omega arith, omega arith) ∙ (gap_passed after g (at + 1) ∙ ap (λ (k : ℕ). lexemes_from 0 k after) place)
 gap_passed after (comment inside gap all line g) at =
     let n = suc (length inside) in
     let text : List ℕ = 35 ∷ (inside ++ (gap ++ after)) in
     let place : at + n + length gap ≡ at + length (35 ∷ (inside ++ gap)) = omega (arith, length-append inside gap) in
-    ap (λ (t : List ℕ). lexemes_from 0 at (35 ∷ t)) (append_assoc inside gap after) ∙ (lexemes_from-piece (piece.Gap n) at text (comment_piece at inside (gap ++ after) all line) (omega arith, omega (arith, length-append inside (gap ++ after))) ∙ (behind-append at n (35 ∷ inside) (gap ++ after) refl ∙ (gap_passed after g (at + n) ∙ ap (λ (k : ℕ). lexemes_from 0 k after) place)))
+    ap (λ (t : List ℕ). lexemes_from 0 at (35 ∷ t)) (append_assoc inside gap after) ∙ (lexemes_from-piece (computing.gap n) at text (comment_piece at inside (gap ++ after) all line) (omega arith, omega (arith, length-append inside (gap ++ after))) ∙ (behind-append at n (35 ∷ inside) (gap ++ after) refl ∙ (gap_passed after g (at + n) ∙ ap (λ (k : ℕ). lexemes_from 0 k after) place)))
 
 -- ---- tokens
 
@@ -96,7 +97,7 @@ number_by_digits : (at : ℕ) (text digits : List ℕ) → take (length digits) 
 number_by_digits at text digits e =
     let n = length digits in
     let same : take n text ≡ take n digits = e ∙ sym (take-length digits) in
-    ap (λ (t : List ℕ). if nat_lt greatest_number (value_of_digits t) then Err (Number at) else Ok (piece.Token kind.Number n)) same
+    ap (λ (t : List ℕ). if nat_lt greatest_number (value_of_digits t) then Err (Number at) else Ok (computing.token kind.Number n)) same
 
 and_true : (b : Bool) → (b && true) ≡ b
 and_true true = refl
@@ -111,16 +112,16 @@ not_mark c h = grind (arith, nat_tests)
 
 -- by the first byte
 module _ (at c : ℕ) (cs : List ℕ) (blank_not : is_blank c ≡ false) (mark_not : (c == 35) ≡ false) where
-  at_letter : is_letter c ≡ true → first_piece at (c ∷ cs) ≡ word_at at (prefix_len is_word_byte (c ∷ cs))
+  at_letter : is_letter c ≡ true → front_at at (c ∷ cs) ≡ word_at at (prefix_len is_word_byte (c ∷ cs))
   at_letter letter = rw (blank_not, mark_not, letter) refl
 
-  at_digit : is_letter c ≡ false → is_digit c ≡ true → first_piece at (c ∷ cs) ≡ number_at at (prefix_len is_digit (c ∷ cs)) (c ∷ cs)
+  at_digit : is_letter c ≡ false → is_digit c ≡ true → front_at at (c ∷ cs) ≡ number_at at (prefix_len is_digit (c ∷ cs)) (c ∷ cs)
   at_digit letter digit = rw (blank_not, mark_not, letter, digit) refl
 
-  at_other : is_letter c ≡ false → is_digit c ≡ false → first_piece at (c ∷ cs) ≡ sign_at at c (c ∷ cs)
+  at_other : is_letter c ≡ false → is_digit c ≡ false → front_at at (c ∷ cs) ≡ sign_at at c (c ∷ cs)
   at_other letter digit = rw (blank_not, mark_not, letter, digit) refl
 
-word_piece : (at : ℕ) (s after : List ℕ) → IsLongest kind.Word s after → first_piece at (s ++ after) ≡ word_at at (length s)
+word_piece : (at : ℕ) (s after : List ℕ) → IsLongest kind.Word s after → front_at at (s ++ after) ≡ word_at at (length s)
 word_piece at [] after longest = let never = longest.is_one in cc
 word_piece at (c ∷ s) after longest =
     let parts = both (is_letter c) (list_all is_word_byte s) longest.is_one in
@@ -129,7 +130,7 @@ word_piece at (c ∷ s) after longest =
     let n : prefix_len is_word_byte (c ∷ (s ++ after)) ≡ length (c ∷ s) = prefix_len-run is_word_byte (c ∷ s) after over (rw (parts.0, parts.1) refl) in
     at_letter at c (s ++ after) alone.0 alone.1 parts.0 ∙ ap (word_at at) n
 
-number_piece : (at : ℕ) (s after : List ℕ) → IsLongest kind.Number s after → first_piece at (s ++ after) ≡ number_at at (length s) s
+number_piece : (at : ℕ) (s after : List ℕ) → IsLongest kind.Number s after → front_at at (s ++ after) ≡ number_at at (length s) s
 number_piece at [] after longest = let never = longest.is_one in cc
 number_piece at (c ∷ s) after longest =
     let parts = both (is_digit c) (list_all is_digit s) longest.is_one in
@@ -159,17 +160,17 @@ none_of false false false true h = cc
 pub sign_begins : (c : ℕ) (s : List ℕ) → is_sign (c ∷ s) ≡ true → begins_sign c ≡ true
 sign_begins c s h = any_has first_begins (c ∷ s) signs refl h
 
-sign_other : (at c : ℕ) (s cs : List ℕ) → is_sign (c ∷ s) ≡ true → first_piece at (c ∷ cs) ≡ sign_at at c (c ∷ cs)
+sign_other : (at c : ℕ) (s cs : List ℕ) → is_sign (c ∷ s) ≡ true → front_at at (c ∷ cs) ≡ sign_at at c (c ∷ cs)
 sign_other at c s cs h =
     let parts = none_of (is_blank c) (c == 35) (is_letter c) (is_digit c) (sign_begins c s h) in
     at_other at c cs parts.0 parts.1 parts.2 parts.3
 
-long_sign_at : (at c : ℕ) (cs s : List ℕ) → take 2 (c ∷ cs) ≡ s → list_any (bytes_eq s) long_signs ≡ true → sign_at at c (c ∷ cs) ≡ Ok (piece.Token kind.Sign 2)
+long_sign_at : (at c : ℕ) (cs s : List ℕ) → take 2 (c ∷ cs) ≡ s → list_any (bytes_eq s) long_signs ≡ true → sign_at at c (c ∷ cs) ≡ Ok (computing.token kind.Sign 2)
 long_sign_at at c cs s e h =
     let long : list_any (bytes_eq (take 2 (c ∷ cs))) long_signs ≡ true = ap (λ (t : List ℕ). list_any (bytes_eq t) long_signs) e ∙ h in
     rw long refl
 
-short_sign_at : (at c : ℕ) (cs : List ℕ) → list_any (bytes_eq (take 2 (c ∷ cs))) long_signs ≡ false → is_short_sign c ≡ true → sign_at at c (c ∷ cs) ≡ Ok (piece.Token kind.Sign 1)
+short_sign_at : (at c : ℕ) (cs : List ℕ) → list_any (bytes_eq (take 2 (c ∷ cs))) long_signs ≡ false → is_short_sign c ≡ true → sign_at at c (c ∷ cs) ≡ Ok (computing.token kind.Sign 1)
 short_sign_at at c cs no_long short = rw (no_long, short) refl
 
 -- where a sign of one byte is the longest, no long sign stands there
@@ -181,33 +182,33 @@ no_long_by c (d ∷ after) longest true e =
     let none_more = longest.longest (d ∷ []) after refl sign in
     cc
 
-short_piece : (at : ℕ) (s after : List ℕ) → length s ≡ 1 → list_any (bytes_eq s) one_byte_signs ≡ true → IsLongest kind.Sign s after → first_piece at (s ++ after) ≡ Ok (piece.Token kind.Sign 1)
+short_piece : (at : ℕ) (s after : List ℕ) → length s ≡ 1 → list_any (bytes_eq s) one_byte_signs ≡ true → IsLongest kind.Sign s after → front_at at (s ++ after) ≡ Ok (computing.token kind.Sign 1)
 short_piece at [] after size h longest = absurd (omega arith)
 short_piece at (c ∷ d ∷ s) after size h longest = absurd (omega arith)
 short_piece at (c ∷ []) after size h longest =
     let no_long = no_long_by c after longest (list_any (bytes_eq (take 2 (c ∷ after))) long_signs) refl in
     sign_other at c [] after longest.is_one ∙ short_sign_at at c after no_long (is_short c h)
 
-long_piece : (at : ℕ) (s after : List ℕ) → length s ≡ 2 → list_any (bytes_eq s) long_signs ≡ true → IsLongest kind.Sign s after → first_piece at (s ++ after) ≡ Ok (piece.Token kind.Sign 2)
+long_piece : (at : ℕ) (s after : List ℕ) → length s ≡ 2 → list_any (bytes_eq s) long_signs ≡ true → IsLongest kind.Sign s after → front_at at (s ++ after) ≡ Ok (computing.token kind.Sign 2)
 long_piece at [] after size h longest = absurd (omega arith)
 long_piece at (c ∷ s) after size h longest = sign_other at c s (s ++ after) longest.is_one ∙ long_sign_at at c (s ++ after) (c ∷ s) (take_at (c ∷ s) after 2 size) h
 
-sign_piece : (at : ℕ) (s after : List ℕ) → IsLongest kind.Sign s after → first_piece at (s ++ after) ≡ Ok (piece.Token kind.Sign (length s))
+sign_piece : (at : ℕ) (s after : List ℕ) → IsLongest kind.Sign s after → front_at at (s ++ after) ≡ Ok (computing.token kind.Sign (length s))
 sign_piece at s after longest =
     elim (either (list_any (bytes_eq s) long_signs) (list_any (bytes_eq s) one_byte_signs) (sym (signs_split s) ∙ longest.is_one)) [
-      | inl long ↦ let size = has_length 2 s long_signs refl long in long_piece at s after size long longest ∙ ap (λ (k : ℕ). Ok (piece.Token kind.Sign k)) (sym size)
-      | inr short ↦ let size = one_length s short in short_piece at s after size short longest ∙ ap (λ (k : ℕ). Ok (piece.Token kind.Sign k)) (sym size)
+      | inl long ↦ let size = has_length 2 s long_signs refl long in long_piece at s after size long longest ∙ ap (λ (k : ℕ). Ok (computing.token kind.Sign k)) (sym size)
+      | inr short ↦ let size = one_length s short in short_piece at s after size short longest ∙ ap (λ (k : ℕ). Ok (computing.token kind.Sign k)) (sym size)
     ]
 
 -- ---- the first piece by the layout
 
-word_fits : (at n : ℕ) → n ≤ longest_name → word_at at n ≡ Ok (piece.Token kind.Word n)
+word_fits : (at n : ℕ) → n ≤ longest_name → word_at at n ≡ Ok (computing.token kind.Word n)
 word_fits at n h = grind (arith, nat_tests)
 
 word_too_long : (at n : ℕ) → longest_name < n → word_at at n ≡ Err (LongName at)
 word_too_long at n h = grind (arith, nat_tests)
 
-pub token_piece : (at : ℕ) (k : TokenKind) (s after : List ℕ) → IsLongest k s after → IsInLimits k s → first_piece at (s ++ after) ≡ Ok (piece.Token k (length s))
+pub token_piece : (at : ℕ) (k : TokenKind) (s after : List ℕ) → IsLongest k s after → IsInLimits k s → front_at at (s ++ after) ≡ Ok (computing.token k (length s))
 token_piece at kind.Word s after longest h = word_piece at s after longest ∙ word_fits at (length s) h
 token_piece at kind.Number s after longest h = number_piece at s after longest ∙ number_fits at (length s) (value_of_digits s) s (ap value_of_digits (sym (take-length s))) h
 token_piece at kind.Sign s after longest h = sign_piece at s after longest
@@ -226,10 +227,10 @@ module _ (at c : ℕ) (cs : List ℕ) (never : (k : TokenKind) (s rest : List �
   no_short : is_short_sign c ≡ false
   no_short = sym (short_test c) ∙ (neither (list_any (bytes_eq (c ∷ [])) long_signs) (list_any (bytes_eq (c ∷ [])) one_byte_signs) (sym (signs_split (c ∷ [])) ∙ never kind.Sign (c ∷ []) cs refl)).1
 
-  byte_piece : is_blank c ≡ false → c ≢ 35 → first_piece at (c ∷ cs) ≡ Err (Byte at)
+  byte_piece : is_blank c ≡ false → c ≢ 35 → front_at at (c ∷ cs) ≡ Err (Byte at)
   byte_piece not_blank mark = at_other at c cs not_blank (not_mark c mark) no_letter no_digit ∙ rw (no_long, no_short) refl
 
-pub fault_piece : (at : ℕ) {after : List ℕ} {fault : LexFault} → IsFault at after fault → first_piece at after ≡ Err fault
+pub fault_piece : (at : ℕ) {after : List ℕ} {fault : LexFault} → IsFault at after fault → front_at at after ≡ Err fault
 fault_piece at (no_token c cs not_blank mark never) = byte_piece at c cs never not_blank mark
 fault_piece at (long_name s rest longest h) = word_piece at s rest longest ∙ word_too_long at (length s) h
 fault_piece at (great_number s rest longest h) = number_piece at s rest longest ∙ number_too_great at (length s) (length s) (value_of_digits s) s (omega arith) (ap value_of_digits (sym (take-length s))) h
@@ -243,10 +244,10 @@ fault_has_byte at (great_number s rest longest h) = omega (arith, has_byte kind.
 pub lexemes_from-token : (from to : ℕ) (k : TokenKind) (s rest : List ℕ) → IsLongest k s rest → IsInLimits k s → to ≡ from + length s → lexemes_from 0 from (s ++ rest) ≡ with_first (lexeme (form_of k s) from to) (lexemes_from 0 to rest)
 lexemes_from-token from to k s rest longest limits e =
     let n = length s in
-    let within : IsWithin (s ++ rest) (piece.Token k n) = (has_byte k s longest.is_one, omega (arith, length-append s rest)) in
+    let within : IsWithin (s ++ rest) (computing.token k n) = (has_byte k s longest.is_one, omega (arith, length-append s rest)) in
     let spelt : lexeme (form_of k (take n (s ++ rest))) from (from + n) ≡ lexeme (form_of k s) from to = ap (λ (t : List ℕ). lexeme (form_of k t) from (from + n)) (take_at s rest n refl) ∙ ap (λ (m : ℕ). lexeme (form_of k s) from m) (sym e) in
     let later : behind from (s ++ rest) n ≡ lexemes_from 0 to rest = behind-append from n s rest refl ∙ ap (λ (m : ℕ). lexemes_from 0 m rest) (sym e) in
-    lexemes_from-piece (piece.Token k n) from (s ++ rest) (token_piece from k s rest longest limits) within ∙ (ap (λ (t : Lexeme). with_first t (behind from (s ++ rest) n)) spelt ∙ ap (with_first (lexeme (form_of k s) from to)) later)
+    lexemes_from-piece (computing.token k n) from (s ++ rest) (token_piece from k s rest longest limits) within ∙ (ap (λ (t : Lexeme). with_first t (behind from (s ++ rest) n)) spelt ∙ ap (with_first (lexeme (form_of k s) from to)) later)
 
 pub lexemes_from-layout : {at : ℕ} {text : List ℕ} {r : Result (List Lexeme) LexFault} → ReadsAs at text r → lexemes_from 0 at text ≡ r
 lexemes_from-layout (ends at end gap g e) =

@@ -5,10 +5,9 @@ use Rattle.msl_lex.specs.declared.token.Token.{Token}
 use Rattle.msl_lex.specs.declared.token.TokenKind.{TokenKind}
 use Rattle.msl_lex.specs.declared.token.TokenKind.TheVariants.{Word, Number, Sign, Close}
 use Rattle.msl_lex.specs.declared.token.LexFault.{LexFault}
-use Rattle.msl_lex.specs.Lexemes.{Lexeme, lexeme, form_of, close, lexeme_of, AreTokensOf}
-use Rattle.msl_lex.specs.Layout.{IsInLimits, spells, ReadsAs, ends, goes, stops}
+use Rattle.msl_lex.specs.Lexemes.{Lexeme, lexeme, form_of, close, lexeme_of}
+use Rattle.msl_lex.specs.Layout.{AreTokensOf, IsInLimits, spells, ReadsAs, ends, goes, stops}
 use Rattle.msl_lex.specs.Places.{IsSpelt}
-use Rattle.msl_lex.proofs.Layouts.{reads_as_lexemes}
 use Rattle.msl_lex.proofs.Orders.{closes}
 use Rattle.msl_lex.proofs.Said.{first_says, LoneSays, lone_says}
 
@@ -78,4 +77,4 @@ module _ (source : List ℕ) where
   spelt_from (stops at from gap after fault g e f) here tokens h = cc
 
 pub tokens_spelt : (text : List ℕ) (tokens : List Token) → AreTokensOf text tokens → (k : ℕ) (d : Token) → k < length tokens → IsSpelt text (get_or tokens k d)
-tokens_spelt text tokens h = spelt_from text (reads_as_lexemes text) refl tokens h.said
+tokens_spelt text tokens h = spelt_from text h.said refl tokens refl

@@ -4,8 +4,7 @@ use Rattle.msl_lex.specs.declared.token.LexFault.{LexFault}
 use Rattle.msl_lex.specs.declared.token.TokenKind.{TokenKind}
 use Rattle.msl_lex.specs.declared.token.TokenKind.TheVariants.{Word, Number, Sign, Close}
 use Rattle.msl_lex.specs.Layout.{IsInLimits, spells, ReadsAs, ends, goes, stops}
-use Rattle.msl_lex.specs.Lexemes.{Lexeme, form_of, with_first, lexemes}
-use Rattle.msl_lex.proofs.Layouts.{reads_as_lexemes}
+use Rattle.msl_lex.specs.Lexemes.{Lexeme, form_of, with_first}
 use Rattle.std.proofs.Common.{IsTrue}
 use Rattle.msl_lex.specs.Spelling.{IsSpelt, AreSpelt}
 
@@ -23,10 +22,7 @@ first_spelt : (t : Lexeme) (r : Result (List Lexeme) LexFault) → IsSpelt t.for
 first_spelt t (Ok ts) h hs = (h, hs)
 first_spelt t (Err e) h hs = tt
 
-of_layout : (at : ℕ) (text : List ℕ) (r : Result (List Lexeme) LexFault) → ReadsAs at text r → AllSpelt r
+pub of_layout : (at : ℕ) (text : List ℕ) (r : Result (List Lexeme) LexFault) → ReadsAs at text r → AllSpelt r
 of_layout _ _ _ (ends at end gap h is) = (tt, tt)
 of_layout _ _ _ (goes at from to k gap s rest others h is longest limits is_to reads) = first_spelt _ others (one_spelt k s longest.is_one limits) (of_layout to rest others reads)
 of_layout _ _ _ (stops at from gap after fault h is is_fault) = tt
-
-pub lexemes_spelt : (text : List ℕ) → AllSpelt (lexemes text)
-lexemes_spelt text = of_layout 0 text (lexemes text) (reads_as_lexemes text)

@@ -1,13 +1,15 @@
 -- How a text is made of tokens: a gap, a spelling, a gap and so on, up to its end or to the first fault.
-use Rattle.std.specs.Prelude.{◌≡◌, ◌≢◌, ℕ, ◌+◌, ◌<◌, ◌≤◌, Bool, false, ◌&&◌, List, [], ◌∷◌, ◌++◌, length, IsTrue, Result, Ok, Err}
+-- This is what `lex` promises.
+use Rattle.std.specs.Prelude.{◌≡◌, ◌≢◌, ℕ, ◌+◌, ◌<◌, ◌≤◌, Bool, false, ◌&&◌, List, [], ◌∷◌, ◌++◌, length, map, IsTrue, Result, Ok, Err}
 use Rattle.std.specs.List.{list_all, list_any}
 use Rattle.std.specs.Str.{bytes_eq}
+use Rattle.msl_lex.specs.declared.token.Token.{Token}
 use Rattle.msl_lex.specs.declared.token.TokenKind.{TokenKind}
 use Rattle.msl_lex.specs.declared.token.TokenKind.TheVariants as kind
 use Rattle.msl_lex.specs.declared.token.LexFault.{LexFault}
-use Rattle.msl_lex.specs.declared.token.LexFault.TheVariants.{Byte, LongName, Number}
+use Rattle.msl_lex.specs.declared.token.LexFault.TheVariants.{Byte, LongName, Number, NoMemory}
 use Rattle.msl_lex.specs.Bytes.{is_blank, is_letter, is_digit, is_word_byte, is_comment_byte, signs, value_of_digits}
-use Rattle.msl_lex.specs.Lexemes.{Lexeme, lexeme, close, form_of, with_first, longest_name, greatest_number}
+use Rattle.msl_lex.specs.Lexemes.{Lexeme, lexeme, close, form_of, lexeme_of, with_first, longest_name, greatest_number}
 
 -- an LF comes next, or the end
 abbrev pub EndsLine : List ℕ → Type 0
@@ -61,3 +63,12 @@ pub data ReadsAs : ℕ → List ℕ → Result (List Lexeme) LexFault → Type 0
   ends : (at end : ℕ) (gap : List ℕ) → IsGap [] gap → end ≡ at + length gap → ReadsAs at gap (Ok (lexeme close end end ∷ []))
   goes : (at from to : ℕ) (k : TokenKind) (gap s rest : List ℕ) (others : Result (List Lexeme) LexFault) → IsGap (s ++ rest) gap → from ≡ at + length gap → IsLongest k s rest → IsInLimits k s → to ≡ from + length s → ReadsAs to rest others → ReadsAs at (gap ++ (s ++ rest)) (with_first (lexeme (form_of k s) from to) others)
   stops : (at from : ℕ) (gap after : List ℕ) (fault : LexFault) → IsGap after gap → from ≡ at + length gap → IsFault from after fault → ReadsAs at (gap ++ after) (Err fault)
+
+-- these are the tokens of the text, all of them in order
+pub record AreTokensOf (text : List ℕ) (tokens : List Token) : Type 0 where
+  pub said : ReadsAs 0 text (Ok (map (lexeme_of text) tokens))
+
+-- this is the text's refusal; want of memory says nothing of it
+abbrev pub IsRefusalOf : List ℕ → LexFault → Type 0
+IsRefusalOf text NoMemory = Unit {0}
+IsRefusalOf text fault = ReadsAs 0 text (Err fault)

@@ -1,5 +1,6 @@
 pub mod Bytes
 pub mod Lexemes
+pub mod Computing
 pub mod Layout
 pub mod Pieces
 pub mod Places

@@ -1,8 +1,8 @@
 -- A text by its tokens and the blanks between them.
 use Rattle.std.specs.Prelude.{◌≡◌, ℕ, Bool, true, false, not, ◌&&◌, ◌||◌, nat_le, List, [], ◌∷◌, ◌++◌, length, map, decimal, Ok}
 use Rattle.msl_lex.specs.Bytes.{is_blank, starts_long_sign}
-use Rattle.msl_lex.specs.Layout.{is_word, is_sign}
-use Rattle.msl_lex.specs.Lexemes.{Form, Lexeme, word, number, sign, close, lexemes, longest_name, greatest_number}
+use Rattle.msl_lex.specs.Layout.{is_word, is_sign, ReadsAs}
+use Rattle.msl_lex.specs.Lexemes.{Form, Lexeme, word, number, sign, close, longest_name, greatest_number}
 
 -- what a text is put together from
 pub data Bit : Type 0 where
@@ -54,5 +54,5 @@ is_laid (blank c ∷ bs) = is_blank c && is_laid bs
 -- the text has just these tokens, and its end
 pub record SaysAll (bits : List Bit) : Type 0 where
   pub tokens : List Lexeme
-  pub said : lexemes (text_of bits) ≡ Ok tokens
+  pub said : ReadsAs 0 (text_of bits) (Ok tokens)
   pub forms : map (λ t. t.form) tokens ≡ forms_of bits ++ close ∷ []

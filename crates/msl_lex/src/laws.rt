@@ -3,15 +3,16 @@
 ghost use Rattle.std.specs.Prelude.{◌≡◌, [], ◌∷◌, Ok, Err, List, Result, All, IsTrue, codes, length};
 ghost use Rattle.msl_lex.specs.declared.token.LexFault.TheVariants.{Byte};
 ghost use Rattle.msl_lex.specs.declared.token.LexFault.{LexFault};
-ghost use Rattle.msl_lex.specs.Lexemes.{AreTokensOf, Lexeme, lexemes, lexeme, word, sign, number, close};
-ghost use Rattle.msl_lex.specs.Layout.{ReadsAs};
+ghost use Rattle.msl_lex.specs.Computing.{lexemes};
+ghost use Rattle.msl_lex.specs.Layout.{AreTokensOf, ReadsAs};
+ghost use Rattle.msl_lex.specs.Lexemes.{Lexeme, lexeme, word, sign, number, close};
 ghost use Rattle.msl_lex.specs.Printing.{Bit, is_laid, SaysAll};
 ghost use Rattle.msl_lex.specs.Places.{AreInOrder, LiesWithin, ClosesLast, IsSpelt};
 
 use crate::Tokens;
 
 /// Each text is a gap, a token's spelling, a gap and so on, up to its end or its first fault, in one
-/// way, and that is what its lexemes say.
+/// way, and that is what `lexemes` computes.
 pub fn text_is_laid_out(text: &[u8])
     ensures some { ReadsAs 0 text.now (lexemes text.now) }
     ensures one { (r : Result (List Lexeme) LexFault) → ReadsAs 0 text.now r → lexemes text.now ≡ r }

@@ -2,8 +2,9 @@ ghost use Rattle.std.specs.Prelude.{◌≡◌, ◌≤◌, ◌<◌, ◌^◌, leng
 ghost use Rattle.std.specs.List.{prefix_len};
 ghost use Rattle.msl_base.specs.declared.limits.TheConstants.{MOST_SCRIPT_BYTES};
 ghost use Rattle.msl_lex.specs.Bytes.{is_blank, is_letter, is_digit, is_word_byte, is_comment_byte, is_short_sign, starts_long_sign};
-ghost use Rattle.msl_lex.specs.Lexemes.{first_piece, word_at, number_at, sign_at, AreTokensOf, IsRefusalOf};
-ghost use Rattle.msl_lex.specs.Pieces.{IsWithin};
+ghost use Rattle.msl_lex.specs.Computing.{front_at, word_at, number_at, sign_at};
+ghost use Rattle.msl_lex.specs.Layout.{AreTokensOf, IsRefusalOf};
+ghost use Rattle.msl_lex.specs.Pieces.{front_in, front_of, IsWithin};
 
 use crate::{LexFault, Token, TokenKind, Tokens};
 use msl_base::limits::{GREATEST_NUMBER, LONGEST_NAME};
@@ -57,8 +58,8 @@ enum Piece {
 // The first piece of a text, which stands at this place.
 fn first_piece(text: &[u8], at: u32) -> Result<Piece, LexFault>
     requires { 0 < length text.now }
-    ensures piece { result ≡ first_piece at text.now }
-    ensures within { IfOk result (IsWithin text.now) }
+    ensures piece { front_in result ≡ front_at at text.now }
+    ensures within { IfOk result (λ p. IsWithin text.now (front_of p)) }
 {
     let first = text[0];
     if is_blank(first) {
@@ -87,7 +88,7 @@ fn word_len(text: &[u8]) -> usize
 }
 
 fn word(text: &[u8], at: u32) -> Result<Piece, LexFault>
-    ensures { result ≡ word_at at (prefix_len is_word_byte text.now) }
+    ensures { front_in result ≡ word_at at (prefix_len is_word_byte text.now) }
 {
     let len = word_len(text);
     if len > LONGEST_NAME {
@@ -97,7 +98,7 @@ fn word(text: &[u8], at: u32) -> Result<Piece, LexFault>
 }
 
 fn number(text: &[u8], at: u32) -> Result<Piece, LexFault>
-    ensures { result ≡ number_at at (prefix_len is_digit text.now) text.now }
+    ensures { front_in result ≡ number_at at (prefix_len is_digit text.now) text.now }
 {
     let mut value = 0;
     for (len, &byte) in text.iter().enumerate() {
@@ -114,7 +115,7 @@ fn number(text: &[u8], at: u32) -> Result<Piece, LexFault>
 
 fn sign(text: &[u8], at: u32) -> Result<Piece, LexFault>
     requires { 0 < length text.now }
-    ensures { result ≡ sign_at at (slice_index text.now 0) text.now }
+    ensures { front_in result ≡ sign_at at (slice_index text.now 0) text.now }
 {
     if starts_long_sign(text) {
         Ok(Piece::Token(TokenKind::Sign, 2))

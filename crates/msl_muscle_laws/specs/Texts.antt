@@ -1,6 +1,7 @@
 -- Texts of one function, and what they are read as.
 use Rattle.std.specs.Prelude.{ℕ, pos, List, [], ◌∷◌, codes, Result, Ok, Err}
-use Rattle.msl_lex.specs.Lexemes.{Lexeme, lexemes}
+use Rattle.msl_lex.specs.Computing.{lexemes}
+use Rattle.msl_lex.specs.Lexemes.{Lexeme}
 use Rattle.msl_lex.specs.declared.token.LexFault.{LexFault}
 use Rattle.msl_lex.specs.declared.token.LexFault.TheVariants as fault
 use Rattle.msl_lex.specs.declared.kind.Kind.TheVariants.{Byte, LongName, Number}
@@ -22,7 +23,7 @@ fun_of_tokens funs (Err (fault.LongName at)) = Err (LongName, at)
 fun_of_tokens funs (Err (fault.Number at)) = Err (Number, at)
 fun_of_tokens funs (Err fault.NoMemory) = Err (Byte, 0)
 
--- the function that a text begins with, over these before it, or its first refusal
+-- the function that a text begins with, over these before it, or its first refusal; computed, for worked examples
 abbrev pub fun_of_text : List Fun → List ℕ → Result Fun Refusal
 fun_of_text funs text = fun_of_tokens funs (lexemes text)
 

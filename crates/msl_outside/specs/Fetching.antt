@@ -1,5 +1,5 @@
 -- What a fetch of a file gives.
-use Rattle.std.specs.Prelude.{ℕ, ◌≡◌, ◌<◌, ◌≤◌, List, [], ◌∷◌, Option, Some, None, length, if◌then◌else◌, ⊤}
+use Rattle.std.specs.Prelude.{ℕ, ◌≡◌, ◌<◌, ◌≤◌, ◌+◌, ◌-◌, ◌^◌, ◌⊎◌, min, List, [], ◌∷◌, ◌++◌, Option, Some, None, length, if◌then◌else◌, ⊤}
 use Rattle.std.specs.Str.{bytes_eq}
 use Rattle.msl_outside.specs.Causes.{Rose}
 use Rattle.msl_outside.specs.declared.memory.File.{File}
@@ -26,7 +26,23 @@ Fetches file limit Long = IsLonger file limit
 Fetches file limit Failed = ⊤
 Fetches file limit NoMemory = ⊤
 
--- the count never falls, and has risen where the fetch failed
+-- the count rose where the fetch failed, and is as before where it did not
 abbrev pub FetchCause : ℕ → ℕ → Fetched → Type 0
-FetchCause before now Failed = (before ≤ now) × Rose before now
-FetchCause before now _ = before ≤ now
+FetchCause before now (Bytes bytes) = now ≡ before
+FetchCause before now Long = now ≡ before
+FetchCause before now Failed = Rose before now
+FetchCause before now NoMemory = now ≡ before
+
+-- the same of a count that rises by one
+abbrev pub FetchCounts : ℕ → ℕ → Fetched → Type 0
+FetchCounts before now (Bytes bytes) = now ≡ before
+FetchCounts before now Long = now ≡ before
+FetchCounts before now Failed = now ≡ min (before + 1) (2 ^ 64 - 1)
+FetchCounts before now NoMemory = now ≡ before
+
+-- No name but this was asked for, behind those before. A fetch that gives no file may leave it out.
+abbrev pub Asks : List ℕ → Fetched → List (List ℕ) → List (List ℕ) → Type 0
+Asks name (Bytes bytes) before now = now ≡ before ++ name ∷ []
+Asks name Long before now = now ≡ before ++ name ∷ []
+Asks name Failed before now = (now ≡ before) ⊎ (now ≡ before ++ name ∷ [])
+Asks name NoMemory before now = (now ≡ before) ⊎ (now ≡ before ++ name ∷ [])

@@ -1,7 +1,7 @@
-ghost use Rattle.std.specs.Prelude.{Option, None, List, ℕ, ◌≡◌, ◌≤◌, if◌then◌else◌};
-ghost use Rattle.msl_outside.specs.Causes.{Rose};
+ghost use Rattle.std.specs.Prelude.{Option, None, List, ℕ, ◌≡◌, false, if◌then◌else◌};
 
-use crate::{Bytes, Failed, Fetched, Library, Sink, Source};
+use crate::whole::read_whole;
+use crate::{Failed, Fetched, Library, Sink, Source};
 use std::alloc::Global;
 use std::fs;
 use std::io::{Read, Write};
@@ -16,7 +16,9 @@ pub struct RealSource<R: Read> {
 
 impl<R: Read> RealSource<R> {
     /// A source that no read of has failed yet.
-    pub fn new(inner: R) -> RealSource<R> {
+    pub fn new(inner: R) -> RealSource<R>
+        ensures { result ≡ record { inner = inner; faults = 0 } }
+    {
         RealSource { inner, faults: 0 }
     }
 }
@@ -48,7 +50,9 @@ pub struct RealSink<W: Write> {
 
 impl<W: Write> RealSink<W> {
     /// A sink that no write of has failed yet.
-    pub fn new(inner: W) -> RealSink<W> {
+    pub fn new(inner: W) -> RealSink<W>
+        ensures { result ≡ record { inner = inner; faults = 0; is_flushed = false } }
+    {
         RealSink {
             inner,
             faults: 0,
@@ -98,49 +102,30 @@ pub struct RealLibrary<R: Files + Drop> {
 
 impl<R: Files + Drop> RealLibrary<R> {
     /// A library that no fetch of has failed yet.
-    pub fn new(rt: R) -> RealLibrary<R> {
-        RealLibrary { rt, faults: 0 }
-    }
-
-    // Counts a fault.
-    fn failed(&mut self) -> Fetched
-        ensures failed { result ≡ Fetched.Failed }
-        ensures counted { Rose self.old.faults self.new.faults }
-        ensures later { self.old.faults ≤ self.new.faults }
+    pub fn new(rt: R) -> RealLibrary<R>
+        ensures { result ≡ record { rt = rt; faults = 0 } }
     {
-        self.faults = self.faults.saturating_add(1);
-        Fetched::Failed
+        RealLibrary { rt, faults: 0 }
     }
 }
 
 impl<R: Files + Drop> Library for RealLibrary<R> {
     ghost file = { λ l name. None };
 
+    ghost asked = { λ l. None };
+
     ghost faults = { λ l. l.faults };
 
     // Inlined, its piece would stand among the variables of the caller's whole run.
     #[inline(never)]
     fn fetch(&mut self, alloc: Global, name: &str, limit: usize) -> Fetched {
-        let mut file = match fs::open(&self.rt, name) {
-            Ok(file) => file,
-            Err(_) => return self.failed(),
+        let fetched = match fs::open(&self.rt, name) {
+            Ok(file) => read_whole(alloc, &mut RealSource::new(file), limit),
+            Err(_) => Fetched::Failed,
         };
-        let mut bytes = Vec::new(alloc);
-        let mut piece = [0u8; 4096];
-        for _ in 0..u64::MAX {
-            match file.read(&mut piece) {
-                Ok(0) => break,
-                Ok(n) => {
-                    if n > limit - bytes.len() {
-                        return Fetched::Long;
-                    }
-                    if bytes.extend_from_slice(&piece[..n]).is_err() {
-                        return Fetched::NoMemory;
-                    }
-                }
-                Err(_) => return self.failed(),
-            }
+        if let Fetched::Failed = &fetched {
+            self.faults = self.faults.saturating_add(1);
         }
-        Fetched::Bytes(Bytes::from_vec(bytes))
+        fetched
     }
 }

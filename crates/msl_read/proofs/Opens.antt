@@ -1,7 +1,7 @@
 -- The tokens of a text from a place on, as a cursor has them.
 use Rattle.std.proofs.Common.{ℕ, zero, suc, ◌<◌, List, [], ◌∷◌, length, drop, get_or, arith}
 use Rattle.msl_lex.specs.declared.token.Token.{Token}
-use Rattle.msl_lex.specs.Lexemes.{AreTokensOf}
+use Rattle.msl_lex.specs.Layout.{AreTokensOf}
 use Rattle.msl_lex.specs.Places.{AreInOrder, IsSpelt}
 use Rattle.msl_lex.proofs.Orders.{tokens_in_order}
 use Rattle.msl_lex.proofs.Spellings.{tokens_spelt}

@@ -1,4 +1,4 @@
-//! The scripts of the folder `examples`, what `check` makes of them, and for those that are run yet their records and
+//! The scripts of the folder `examples`, what `check` makes of them, and for those that `seq` runs their records and
 //! results.
 
 use crate::fixture::{Row, is_checked, meet_rows};

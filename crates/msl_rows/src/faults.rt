@@ -1,7 +1,6 @@
 //! Sources, sinks and libraries that fail at one of their calls.
 
-use crate::fixture::{CHECK, Case, Left, Outside, SEQ, SQUARE, WORKING, meet_over, run};
-use std::process::Abort;
+use crate::fixture::{CHECK, Case, Outside, SEQ, SQUARE, WORKING, meet_over};
 use std::test::Fail;
 
 const SECOND_READ: Outside<'static> = Outside {
@@ -102,57 +101,67 @@ const RECORDS: &[u8] = b"3\n4\n5\n";
 
 const RESULTS: &[u8] = b"9\n16\n25\n";
 
-// Whether a run over the records is done, or else is ended by a failing call, which is told, behind the beginning of the
-// results.
-fn is_done(rt: &impl Abort, left: &Left, message: &[u8]) -> bool {
-    let (code, out, told) = (left.status.code(), left.out.held(), left.err.held());
-    let done = code == 0;
-    let is_told = if done {
-        told.is_empty() && out == RESULTS
-    } else {
-        code == 3 && told == message && RESULTS.starts_with(out)
-    };
-    assert!(rt; is_told, "status {code}");
-    done
-}
+// The read that fails where each gives one line, and what comes of that: the results of the lines before are written. The
+// fourth would tell that no more comes.
+const READS: &[(u64, &[u8], &[u8], u8)] = &[
+    (1, b"", NO_READ, 3),
+    (2, b"9\n", NO_READ, 3),
+    (3, b"9\n16\n", NO_READ, 3),
+    (4, RESULTS, NO_READ, 3),
+    (5, RESULTS, b"", 0),
+];
 
-// More calls than a run makes, its flush counted.
-const CALLS: u64 = 12;
-
-// The number of the failing read is counted upwards until a run is done.
 #[test]
 fn every_failing_read_is_told(rt: HostRuntime) -> Result<(), Fail> {
-    let mut done = false;
-    for n in 1..CALLS {
+    for &(n, out, message, code) in READS {
         let outside = Outside {
             read_piece: 2,
             reads: &[n],
             ..WORKING
         };
-        let left = run(rt.alloc(), SEQ, SQUARE, RECORDS, &outside)?;
-        let now = is_done(&rt, &left, NO_READ);
-        assert!(rt; now || !done, "read {n}");
-        done = now;
+        let case = Case {
+            input: RECORDS,
+            out,
+            message,
+            code,
+            ..FAILED
+        };
+        meet_over(&rt, rt.alloc(), &outside, &case)?;
     }
-    assert!(rt; done);
     Ok(())
 }
 
-// Likewise of the failing write or flush.
+// What the commands write where nothing fails.
+const WRITTEN: &[(&[&str], &[u8])] = &[
+    (SEQ, RESULTS),
+    (
+        CHECK,
+        b"muesli 1;\nfun sq(x) = x * x;\nmain = atomic sq;\n# need 2\n",
+    ),
+];
+
+// Each write takes one byte, and behind them comes the flush. Behind a call that fails there is none, so that the bytes
+// before are all that is held.
 #[test]
-fn every_failing_write_is_told(rt: HostRuntime) -> Result<(), Fail> {
-    let mut done = false;
-    for n in 1..CALLS {
-        let outside = Outside {
-            write_piece: 2,
-            writes: &[n],
-            ..WORKING
-        };
-        let left = run(rt.alloc(), SEQ, SQUARE, RECORDS, &outside)?;
-        let now = is_done(&rt, &left, NO_WRITE);
-        assert!(rt; now || !done, "write {n}");
-        done = now;
+fn a_failing_write_or_flush_is_the_last_call(rt: HostRuntime) -> Result<(), Fail> {
+    for &(words, out) in WRITTEN {
+        for n in 0..out.len() + 2 {
+            let fails = n <= out.len();
+            let case = Case {
+                words,
+                input: RECORDS,
+                out: &out[..n.min(out.len())],
+                message: if fails { NO_WRITE } else { b"" },
+                code: if fails { 3 } else { 0 },
+                ..FAILED
+            };
+            let outside = Outside {
+                write_piece: 1,
+                writes: &[n as u64 + 1],
+                ..WORKING
+            };
+            meet_over(&rt, rt.alloc(), &outside, &case)?;
+        }
     }
-    assert!(rt; done);
     Ok(())
 }

@@ -6,6 +6,7 @@ use msl_run::{Status, Words, muesli_plain};
 use std::alloc::Global;
 use std::process::Abort;
 use std::test::Fail;
+use std::thread::Threads;
 
 pub const SQUARE: &str = "muesli 1;\nfun sq(x) = x * x;\nmain = atomic sq;\n";
 
@@ -47,6 +48,7 @@ pub const WORKING: Outside<'static> = Outside {
 #[derive(Drop)]
 pub struct Left {
     pub status: Status,
+    pub lib: MemLibrary,
     pub src: MemSource,
     pub out: MemSink,
     pub err: MemSink,
@@ -77,7 +79,7 @@ fn file(alloc: Global, script: &str) -> Result<File, NoMemory> {
 fn library(alloc: Global, script: &str, failing: &[u64]) -> Result<MemLibrary, NoMemory> {
     let mut files = FileList::new(alloc);
     files.add(file(alloc, script)?)?;
-    Ok(MemLibrary::new(files, calls(alloc, failing)?))
+    Ok(MemLibrary::new(alloc, files, calls(alloc, failing)?))
 }
 
 fn source(
@@ -97,6 +99,7 @@ fn sink(alloc: Global, piece: usize, failing: &[u64]) -> Result<MemSink, NoMemor
 
 /// Runs the words over a library that holds `script` under the name `script`.
 pub fn run(
+    rt: &(impl Threads + Sync),
     alloc: Global,
     words: &[&str],
     script: &str,
@@ -104,23 +107,25 @@ pub fn run(
     outside: &Outside<'_>,
 ) -> Result<Left, NoMemory> {
     let words = words_of(alloc, words)?;
-    let mut lib = library(alloc, script, outside.fetches)?;
-    run_over(alloc, &words, &mut lib, input, outside)
+    let lib = library(alloc, script, outside.fetches)?;
+    run_over(rt, alloc, &words, lib, input, outside)
 }
 
 fn run_over(
+    rt: &(impl Threads + Sync),
     alloc: Global,
     words: &Words,
-    lib: &mut MemLibrary,
+    mut lib: MemLibrary,
     input: &[u8],
     outside: &Outside<'_>,
 ) -> Result<Left, NoMemory> {
     let mut src = source(alloc, input, outside.read_piece, outside.reads)?;
     let mut out = sink(alloc, outside.write_piece, outside.writes)?;
     let mut err = sink(alloc, WHOLE, outside.messages)?;
-    let status = muesli_plain(alloc, words, lib, &mut src, &mut out, &mut err);
+    let status = muesli_plain(rt, alloc, words, &mut lib, &mut src, &mut out, &mut err);
     Ok(Left {
         status,
+        lib,
         src,
         out,
         err,
@@ -139,8 +144,12 @@ pub struct Case<'a> {
 }
 
 /// Runs a case and compares what it leaves behind. Where nothing is run, nothing was read either.
-pub fn meet(rt: &impl Abort, alloc: Global, case: &Case<'_>) -> Result<(), Fail> {
-    let mut left = run(alloc, case.words, case.script, case.input, &WORKING)?;
+pub fn meet(
+    rt: &(impl Abort + Threads + Sync),
+    alloc: Global,
+    case: &Case<'_>,
+) -> Result<(), Fail> {
+    let mut left = run(rt, alloc, case.words, case.script, case.input, &WORKING)?;
     is_left(rt, &left, case);
     if case.code >= 2 || case.words == CHECK {
         is_unread(rt, &mut left.src, case)?;
@@ -150,12 +159,12 @@ pub fn meet(rt: &impl Abort, alloc: Global, case: &Case<'_>) -> Result<(), Fail>
 
 /// Runs a case where calls may fail, and compares what is written, the message and the status.
 pub fn meet_over(
-    rt: &impl Abort,
+    rt: &(impl Abort + Threads + Sync),
     alloc: Global,
     outside: &Outside<'_>,
     case: &Case<'_>,
 ) -> Result<(), Fail> {
-    let left = run(alloc, case.words, case.script, case.input, outside)?;
+    let left = run(rt, alloc, case.words, case.script, case.input, outside)?;
     is_left(rt, &left, case);
     Ok(())
 }
@@ -206,7 +215,11 @@ pub fn not_run<'a>(script: &'a str, message: &'a [u8]) -> Case<'a> {
 }
 
 /// Runs each row.
-pub fn meet_rows(rt: &impl Abort, alloc: Global, rows: &[Row<'_>]) -> Result<(), Fail> {
+pub fn meet_rows(
+    rt: &(impl Abort + Threads + Sync),
+    alloc: Global,
+    rows: &[Row<'_>],
+) -> Result<(), Fail> {
     for row in rows {
         meet_row(rt, alloc, *row)?;
     }
@@ -214,7 +227,11 @@ pub fn meet_rows(rt: &impl Abort, alloc: Global, rows: &[Row<'_>]) -> Result<(),
 }
 
 /// Runs a row.
-pub fn meet_row(rt: &impl Abort, alloc: Global, row: Row<'_>) -> Result<(), Fail> {
+pub fn meet_row(
+    rt: &(impl Abort + Threads + Sync),
+    alloc: Global,
+    row: Row<'_>,
+) -> Result<(), Fail> {
     let case = match row {
         Row::Done(script, input, out) => Case {
             input,
@@ -237,7 +254,7 @@ pub fn meet_row(rt: &impl Abort, alloc: Global, row: Row<'_>) -> Result<(), Fail
 
 // Runs the words over a script of which nothing is run.
 fn is_told(
-    rt: &impl Abort,
+    rt: &(impl Abort + Threads + Sync),
     alloc: Global,
     words: &'static [&'static str],
     script: &str,
@@ -253,7 +270,7 @@ fn is_told(
 /// Runs the words over a text behind these definitions, which is refused: by this kind, at the token behind the `^`,
 /// which isn't part of the script.
 pub fn is_refused(
-    rt: &impl Abort,
+    rt: &(impl Abort + Threads + Sync),
     alloc: Global,
     words: &'static [&'static str],
     known: &str,
@@ -269,12 +286,22 @@ pub fn is_refused(
 
 /// Runs `check` over a script, of which it writes this. What comes of that is the same, since the line with the need is a
 /// comment.
-pub fn is_checked(rt: &impl Abort, alloc: Global, script: &str, out: &str) -> Result<(), Fail> {
+pub fn is_checked(
+    rt: &(impl Abort + Threads + Sync),
+    alloc: Global,
+    script: &str,
+    out: &str,
+) -> Result<(), Fail> {
     is_written(rt, alloc, script, out.as_bytes())?;
     is_written(rt, alloc, out, out.as_bytes())
 }
 
-fn is_written(rt: &impl Abort, alloc: Global, script: &str, out: &[u8]) -> Result<(), Fail> {
+fn is_written(
+    rt: &(impl Abort + Threads + Sync),
+    alloc: Global,
+    script: &str,
+    out: &[u8],
+) -> Result<(), Fail> {
     let case = Case {
         words: CHECK,
         out,

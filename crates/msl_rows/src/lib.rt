@@ -1,6 +1,18 @@
-//! Worked examples of the whole program over objects in memory: what is written, the status and the message.
+//! Tests of the whole program, as tables over `muesli_plain` with objects in memory: what is written, the message, the
+//! status, and that nothing was read where nothing is run.
+//!
+//! - `rows`, `scripts`: commands, scripts of functions, inputs and what comes of them. `examples`: the scripts of the
+//!   folder `examples`, with their records and results, and what `check` makes of each.
+//! - `faults`: each read, write and flush fails in turn, and is told behind the beginning of the results; a failing
+//!   fetch; a message that can't be written; what failed isn't tried again.
+//! - `messages`: the message and the number of each status. `asked`: which files the library was asked for.
+//! - `refusals`, `limits`, `unbuilt`: texts that are no script, scripts at the limits of the language and one above,
+//!   and main stages that aren't `atomic f`.
+//! - `checks`: what `check` writes, and that it refuses what `seq` refuses.
 #![tactic(auto)]
 
+#[cfg(test)]
+mod asked;
 #[cfg(test)]
 mod checks;
 #[cfg(test)]
@@ -11,6 +23,8 @@ mod faults;
 mod fixture;
 #[cfg(test)]
 mod limits;
+#[cfg(test)]
+mod messages;
 #[cfg(test)]
 mod refusals;
 #[cfg(test)]

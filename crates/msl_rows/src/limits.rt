@@ -5,6 +5,7 @@ use crate::refusals::KNOWN;
 use std::alloc::{AllocError, Global};
 use std::process::Abort;
 use std::test::Fail;
+use std::thread::Threads;
 
 const ROWS: &[Row<'static>] = &[
     // 16 parameters and results.
@@ -202,7 +203,7 @@ fn full_text(alloc: Global, full: &Full) -> Result<String, AllocError> {
 }
 
 // The script runs a function that gives its parameter; with one thing more it is refused.
-fn is_full(rt: &impl Abort, alloc: Global, full: &Full) -> Result<(), Fail> {
+fn is_full(rt: &(impl Abort + Threads + Sync), alloc: Global, full: &Full) -> Result<(), Fail> {
     let text = full_text(alloc, full)?;
     let script = format!(in alloc; "{text}{}", full.main)?;
     meet_row(rt, alloc, Row::Done(script.as_str(), b"3\n", b"3\n"))?;

@@ -58,8 +58,8 @@ fn rows_are_met(rt: HostRuntime) -> Result<(), Fail> {
 const USAGE: &[u8] =
     b"muesli: usage: muesli seq FILE, rounds FILE, run FILE, check FILE or demo N, with -p N and for run -t T\n";
 
-// Words that are no command.
-const NO_COMMANDS: &[&[&str]] = &[
+/// Words that are no command.
+pub const NO_COMMANDS: &[&[&str]] = &[
     &[],
     &["seq"],
     &["seq", "-p"],

@@ -1,10 +1,11 @@
-//! Scripts whose main stage isn't one function.
+//! Scripts whose main stage isn't `atomic f`.
 
 use crate::fixture::{Row, meet_row};
 use crate::refusals::KNOWN;
 use std::alloc::Global;
 use std::process::Abort;
 use std::test::Fail;
+use std::thread::Threads;
 
 const SQUARE: &str = "fun sq(x) = x * x;\n";
 
@@ -56,7 +57,7 @@ const WORKED: &[(&str, &str)] = &[
 
 // Definitions behind a head, and a main stage that isn't built.
 fn is_unbuilt(
-    rt: &impl Abort,
+    rt: &(impl Abort + Threads + Sync),
     alloc: Global,
     head: &str,
     items: &str,

@@ -1,5 +1,5 @@
--- Which fault of the outside each status has as its cause.
-use Rattle.std.specs.Prelude.{ℕ, ◌≡◌, ◌≤◌, List, Option, ⊤}
+-- Which counts of faults rose, by the status.
+use Rattle.std.specs.Prelude.{ℕ, ◌≡◌, ◌≤◌}
 use Rattle.msl_io.specs.Causes.{Rose}
 use Rattle.msl_run.specs.declared.status.Status.{Status}
 use Rattle.msl_run.specs.declared.status.Status.TheVariants.{Done, Usage, Library, ScriptLong, Script, Unbuilt, Stream, Read, Write, Memory}
@@ -16,40 +16,18 @@ abbrev pub Rises : Count → Type 0
 Rises c = Rose c.before c.now
 
 abbrev pub Stays : Count → Type 0
-Stays c = c.before ≤ c.now
+Stays c = c.now ≡ c.before
 
--- the counts of the source and of the sink never fall; Read and Write come only where one rose
-pub record StreamCause (status : Status) (source sink : Count) : Type 0 where
-  pub source_stays : Stays source
-  pub sink_stays : Stays sink
-  pub read : status ≡ Read → Rises source
-  pub write : status ≡ Write → Rises sink
-
--- a run ends in one of the stream's endings
-abbrev pub IsEnding : Status → Type 0
-IsEnding Usage = ⊥
-IsEnding Library = ⊥
-IsEnding ScriptLong = ⊥
-IsEnding (Script kind at) = ⊥
-IsEnding Unbuilt = ⊥
-IsEnding _ = ⊤
-
--- all that was taken was handed on, unless writing failed or memory ran out
-abbrev pub HandsOn : Status → Option (List ℕ) → Option (List ℕ) → Type 0
-HandsOn Done flushed held = flushed ≡ held
-HandsOn (Stream f) flushed held = flushed ≡ held
-HandsOn Read flushed held = flushed ≡ held
-HandsOn _ flushed held = ⊤
-
--- the exit status of the program
-abbrev pub code_of : Status → ℕ
-code_of Done = 0
-code_of (Stream f) = 1
-code_of Usage = 2
-code_of ScriptLong = 2
-code_of (Script kind at) = 2
-code_of Unbuilt = 2
-code_of Library = 3
-code_of Read = 3
-code_of Write = 3
-code_of Memory = 4
+-- Library, Read and Write come only where the count of the library, the source or the sink rose, and it rises at no
+-- other status; a sink that fails behind a fault of the source hides it.
+abbrev pub Causes : Status → Count → Count → Count → Type 0
+Causes Library library source sink = Rises library × Stays source × Stays sink
+Causes Read library source sink = Stays library × Rises source × Stays sink
+Causes Write library source sink = Stays library × (source.before ≤ source.now) × Rises sink
+Causes Done library source sink = Stays library × Stays source × Stays sink
+Causes (Stream f) library source sink = Stays library × Stays source × Stays sink
+Causes Memory library source sink = Stays library × Stays source × Stays sink
+Causes Usage library source sink = Stays library × Stays source × Stays sink
+Causes ScriptLong library source sink = Stays library × Stays source × Stays sink
+Causes (Script kind at) library source sink = Stays library × Stays source × Stays sink
+Causes Unbuilt library source sink = Stays library × Stays source × Stays sink

@@ -1,13 +1,13 @@
 -- The one line that tells how a run ended.
-use Rattle.std.specs.Prelude.{ℕ, ◌⊎◌, List, [], ◌∷◌, ◌++◌, codes, decimal, map, Option}
+use Rattle.std.specs.Prelude.{ℕ, ◌≡◌, ◌⊎◌, List, [], ◌∷◌, ◌++◌, codes, decimal, map, Option}
 use Rattle.std.specs.List.{join_with_byte}
 use Rattle.std.specs.Io.KnownBytes.{Appends}
 use Rattle.msl_base.specs.declared.fault.Fault.{Fault}
 use Rattle.msl_base.specs.declared.fault.Fault.TheVariants.{BadRecord, LongLine, WideRecord, ManyLines, Shape, Overflow, DivZero, Steps, Count, NotPermutation, Ragged, Depth, BoundBroken, Value}
-use Rattle.msl_io.specs.Causes.{Rose}
-use Rattle.msl_io.specs.Text.{AppendsPart}
+use Rattle.msl_io.specs.Text.{AppendsFront}
 use Rattle.msl_lex.specs.declared.kind.Kind.{Kind}
 use Rattle.msl_lex.specs.declared.kind.Kind.TheVariants as kinds
+use Rattle.msl_run.specs.Causes.{Count as Counted, Stays, Rises}
 use Rattle.msl_run.specs.declared.status.Status.{Status}
 use Rattle.msl_run.specs.declared.status.Status.TheVariants.{Done, Usage, Library, ScriptLong, Script, Unbuilt, Stream, Read, Write, Memory}
 
@@ -76,6 +76,7 @@ message_of Read = line_of (codes "read fault")
 message_of Write = line_of (codes "write fault")
 message_of Memory = line_of (codes "out of memory")
 
--- a sink grew by the message, or its count rose and it grew by a beginning of it
-abbrev pub Tells : Status → Option (List ℕ) → Option (List ℕ) → ℕ → ℕ → Type 0
-Tells status held now faults faults_now = Appends held now (message_of status) ⊎ (AppendsPart held now (message_of status) × Rose faults faults_now)
+-- A sink grew by the message and handed it on, or its count rose and it grew by a beginning of it, maybe all.
+abbrev pub Tells : Status → Option (List ℕ) → Option (List ℕ) → Option (List ℕ) → Counted → Type 0
+Tells status held now flushed faults =
+    (Appends held now (message_of status) × (flushed ≡ now) × Stays faults) ⊎ (AppendsFront held now (message_of status) × Rises faults)

@@ -1,10 +1,22 @@
 //! The commands of the program, and what each of them leaves behind.
 //!
-//! `muesli_plain` does all that the program does. Its contract says what the output, the error output and the source are
-//! like after each status, and what each status comes of; `Headline` has the table of endings, `TopCall` the clauses over
-//! words and scripts. `command_of` is exactly the commands.
+//! - `muesli_plain` does all that the program does: it takes the words and the objects, and answers the status. `ran`
+//!   says what was read and written at each status, by the table `Ran` of `Headline`, with what the script makes of the
+//!   stream (`SeqRuns`); what `check` writes, and where the words and the script are refused (`TopCall`).
+//! - After `Done`, `Stream` and `Read` all that was written is flushed (`flushed`); at a refusal nothing was touched
+//!   (`untouched`), nor the source at `check` (`unread`); the library was asked for the command's file alone (`asked`).
+//! - A fault of the outside is answered where an object counted one, and nowhere else (`cause`, by `Causes`); where none
+//!   does and a script that is told can be run, the answer is `Done`, `Stream` or `Memory` (`complete`, used in `laws`);
+//!   the error output grew by the message, and was flushed (`message`).
+//! - `command_of` is exactly the commands (`ok`), `tell` writes the message of a status (`Messages`), `Status::code` is
+//!   the exit status.
+//!
+//! Where the source doesn't tell its bytes, only that the output grew is said. `Memory` may come of any command: no
+//! clause says that memory was really short. How much is read after a fault of the stream is open, and nothing is said
+//! of time.
 #![tactic(auto)]
 
+pub mod laws;
 mod message;
 mod run;
 mod sequence;

@@ -1,5 +1,6 @@
 ghost use Rattle.std.specs.Prelude.{◌≡◌, ◌++◌, ◌∷◌, ◌≤◌, ◌+◌, [], length, codes, decimal};
 ghost use Rattle.msl_base.specs.Paths.{AreSteps};
+ghost use Rattle.msl_run.specs.Causes.{count};
 ghost use Rattle.msl_run.specs.Messages.{Tells, message_of, kind_text, fault_text, line_of, at_line, at_stage, path_text, dotted};
 
 use crate::status::Status;
@@ -27,10 +28,10 @@ const WITH_PATH: usize = 260;
 
 /// Writes the message of a status, one line, and nothing after `Done`. A fault of the sink changes nothing else.
 pub fn tell<E: Sink>(err: &mut E, status: &Status)
-    ensures { Tells status.now (E.held err.old) (E.held err.new) (E.faults err.old) (E.faults err.new) }
+    ensures { Tells status.now (E.held err.old) (E.held err.new) (E.flushed err.new) (count (E.faults err.old) (E.faults err.new)) }
 {
     let message = message(status);
-    if write_text(err, message.as_slice()).is_ok() {
+    if let Ok(()) = write_text(err, message.as_slice()) {
         let _ = err.flush();
     }
 }

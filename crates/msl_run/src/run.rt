@@ -1,9 +1,12 @@
-ghost use Rattle.std.specs.Prelude.{◌≡◌, ◌≤◌, ℕ, List, IfErr, IfOk, Option, Some, length};
-ghost use Rattle.msl_io.specs.Causes.{Rose};
-ghost use Rattle.msl_run.specs.Causes.{count, Rises, HandsOn};
-ghost use Rattle.msl_run.specs.Messages.{Tells};
+ghost use Rattle.std.specs.Prelude.{◌≡◌, ◌≤◌, ℕ, List, IfErr, IfOk, Option, length};
 ghost use Rattle.msl_base.specs.declared.limits.TheConstants.{MOST_SCRIPT_BYTES};
-ghost use Rattle.msl_run.specs.TopCall.{command, ends, check_text, Checks, ChecksText, EndsCheck, FetchesScript, IsCheck, IsNoScript, IsScriptOf, OfFile, RunsBuilt, RunsCommand, RunsText, PlainCause, IsRefusal, IsComplete, IsRunnable};
+ghost use Rattle.msl_io.specs.Known.{Told};
+ghost use Rattle.msl_run.specs.Causes.{count, Causes, Rises};
+ghost use Rattle.msl_run.specs.Headline.{ends};
+ghost use Rattle.msl_run.specs.Messages.{Tells};
+ghost use Rattle.msl_run.specs.Statuses.{class_of, IsRefusal, IsComplete, IsHandedOn};
+ghost use Rattle.msl_run.specs.Steps.{IsScriptIn, IsScriptOf, Declines};
+ghost use Rattle.msl_run.specs.TopCall.{command, check_text, AsksFor, Checks, IsAsked, IsCheck, IsRunnable, OfCommand, OfFile, Runs, Wrote};
 
 use crate::message::tell;
 use crate::sequence::{flushed, run_atomic};
@@ -14,18 +17,24 @@ use msl_base::limits::MOST_SCRIPT_BYTES;
 use msl_io::{Fetched, Library, Piece, Sink, Source, WriteFault, write_text};
 use msl_script::{Script, ScriptFault, Stage, need, print_script, read_script};
 use std::alloc::Global;
+use std::thread::Threads;
 
 /// Runs the command that the words are: fetches its script from `lib`; at `seq` reads records from `src` and writes
 /// results to `out`, at `check` reads nothing and writes the canonical text and the line with the need. It flushes
-/// `out`, and writes the message of the answer to `err`, unless it is `Done`.
+/// `out`, and writes the message of the answer to `err`, unless it is `Done`. It always returns, and uses threads only
+/// to wait for what they were given.
 ///
-/// Where the objects tell their bytes, the clause `ran` says what was read and written at each answer. `Usage` comes
-/// exactly where the words are no command. Where the library tells the file, `ScriptLong` comes where it has more than
+/// `Usage` comes exactly where the words are no command. Of the script's file, `ScriptLong` comes where it has more than
 /// 1,048,576 bytes, else `Script` where it is no script, with the first test that fails and its place, else, at `seq`
-/// alone, `Unbuilt` where its main stage isn't one function: there nothing else comes but `Library` and `Memory`, and
-/// none of the three comes anywhere else. `Library`, `Read` and `Write` come only where the object counted a fault in
-/// this call, and `Memory` where memory ran out, which no clause says.
-pub fn muesli_plain<L: Library, S: Source, K: Sink, E: Sink>(
+/// alone, `Unbuilt` where its main stage isn't `atomic`: there nothing else comes but `Library` and `Memory`, and none
+/// of the three comes anywhere else. `Library`, `Read` and `Write` come only where the object counted a fault in this
+/// call, and `Memory` where memory ran out, which no clause says. No fault is passed over: a count rises at these alone.
+///
+/// The clause `ran` says what was read and written at each answer. Where the library doesn't tell its files it speaks of
+/// some text, and where the sink doesn't tell its bytes of some that were written. Where the source doesn't tell its
+/// bytes, it says of them only that the sink grew.
+pub fn muesli_plain<R: Threads + Sync, L: Library, S: Source, K: Sink, E: Sink>(
+    rt: &R,
     alloc: Global,
     words: &Words,
     lib: &mut L,
@@ -33,37 +42,38 @@ pub fn muesli_plain<L: Library, S: Source, K: Sink, E: Sink>(
     out: &mut K,
     err: &mut E,
 ) -> Status
-    ensures ran { RunsCommand (command words.now) (L.file lib.old) (ends (S.left src.old) (S.left src.new) (K.held out.old) (K.held out.new)) result }
-    ensures flushed { HandsOn result (K.flushed out.new) (K.held out.new) }
-    ensures untouched { IsRefusal result → (src.new ≡ src.old) × (out.new ≡ out.old) }
+    ensures ran { OfCommand (command words.now) (L.file lib.old) (ends (S.left src.old) (S.left src.new) (K.held out.old) (K.held out.new)) result }
+    ensures flushed { IsHandedOn (class_of result) (K.flushed out.new) (K.held out.new) }
+    ensures untouched { IsRefusal (class_of result) → (src.new ≡ src.old) × (out.new ≡ out.old) }
     ensures unread { IsCheck (command words.now) → src.new ≡ src.old }
-    ensures cause { PlainCause result (count (L.faults lib.old) (L.faults lib.new)) (count (S.faults src.old) (S.faults src.new)) (count (K.faults out.old) (K.faults out.new)) }
-    // Where a script that is told can be run and no object counts a fault, the answer is Done, Stream or Memory.
-    ensures complete { IsRunnable (command words.now) (L.file lib.old) → (Rose (L.faults lib.old) (L.faults lib.new) → ⊥) → (Rose (S.faults src.old) (S.faults src.new) → ⊥) → (Rose (K.faults out.old) (K.faults out.new) → ⊥) → IsComplete result }
-
-    ensures message { Tells result (E.held err.old) (E.held err.new) (E.faults err.old) (E.faults err.new) }
+    ensures asked { Told (L.asked lib.old) (L.asked lib.new) (AsksFor (command words.now)) }
+    ensures cause { Causes result (count (L.faults lib.old) (L.faults lib.new)) (count (S.faults src.old) (S.faults src.new)) (count (K.faults out.old) (K.faults out.new)) }
+    ensures complete { IsRunnable (command words.now) (L.file lib.old) → (Rises (count (L.faults lib.old) (L.faults lib.new)) → ⊥) → (Rises (count (S.faults src.old) (S.faults src.new)) → ⊥) → (Rises (count (K.faults out.old) (K.faults out.new)) → ⊥) → IsComplete (class_of result) }
+    ensures message { Tells result (E.held err.old) (E.held err.new) (E.flushed err.new) (count (E.faults err.old) (E.faults err.new)) }
 {
-    let status = run_words(alloc, words, lib, src, out);
+    let status = run_words(rt, alloc, words, lib, src, out);
     tell(err, &status);
     status
 }
 
 // Runs the command that the words are.
-fn run_words<L: Library, S: Source, K: Sink>(
+fn run_words<R: Threads + Sync, L: Library, S: Source, K: Sink>(
+    rt: &R,
     alloc: Global,
     words: &Words,
     lib: &mut L,
     src: &mut S,
     out: &mut K,
 ) -> Status
-    ensures ran { RunsCommand (command words.now) (L.file lib.old) (ends (S.left src.old) (S.left src.new) (K.held out.old) (K.held out.new)) result }
-    ensures flushed { HandsOn result (K.flushed out.new) (K.held out.new) }
-    ensures untouched { IsRefusal result → (src.new ≡ src.old) × (out.new ≡ out.old) }
+    ensures ran { OfCommand (command words.now) (L.file lib.old) (ends (S.left src.old) (S.left src.new) (K.held out.old) (K.held out.new)) result }
+    ensures flushed { IsHandedOn (class_of result) (K.flushed out.new) (K.held out.new) }
+    ensures untouched { IsRefusal (class_of result) → (src.new ≡ src.old) × (out.new ≡ out.old) }
     ensures unread { IsCheck (command words.now) → src.new ≡ src.old }
-    ensures cause { PlainCause result (count (L.faults lib.old) (L.faults lib.new)) (count (S.faults src.old) (S.faults src.new)) (count (K.faults out.old) (K.faults out.new)) }
+    ensures asked { Told (L.asked lib.old) (L.asked lib.new) (AsksFor (command words.now)) }
+    ensures cause { Causes result (count (L.faults lib.old) (L.faults lib.new)) (count (S.faults src.old) (S.faults src.new)) (count (K.faults out.old) (K.faults out.new)) }
 {
     match command_of(alloc, words) {
-        Ok(Command::Seq(file)) => run_file(alloc, file.as_str(), lib, src, out),
+        Ok(Command::Seq(file)) => run_file(rt, alloc, file.as_str(), lib, src, out),
         Ok(Command::Check(file)) => check_file(alloc, file.as_str(), lib, out),
         Err(WordsFault::Usage) => Status::Usage,
         Err(WordsFault::NoMemory) => Status::Memory,
@@ -71,36 +81,38 @@ fn run_words<L: Library, S: Source, K: Sink>(
 }
 
 // Runs the script of a file.
-fn run_file<L: Library, S: Source, K: Sink>(
+fn run_file<R: Threads + Sync, L: Library, S: Source, K: Sink>(
+    rt: &R,
     alloc: Global,
     name: &str,
     lib: &mut L,
     src: &mut S,
     out: &mut K,
 ) -> Status
-    ensures ran { OfFile RunsText (L.file lib.old name.now) (ends (S.left src.old) (S.left src.new) (K.held out.old) (K.held out.new)) result }
-    ensures began { result ≡ Status.Usage → ⊥ }
-    ensures flushed { HandsOn result (K.flushed out.new) (K.held out.new) }
-    ensures untouched { IsRefusal result → (src.new ≡ src.old) × (out.new ≡ out.old) }
-    ensures cause { PlainCause result (count (L.faults lib.old) (L.faults lib.new)) (count (S.faults src.old) (S.faults src.new)) (count (K.faults out.old) (K.faults out.new)) }
+    ensures ran { OfFile Runs (L.file lib.old name.now) (ends (S.left src.old) (S.left src.new) (K.held out.old) (K.held out.new)) result }
+    ensures asked { Told (L.asked lib.old) (L.asked lib.new) (IsAsked name.now) }
+    ensures flushed { IsHandedOn (class_of result) (K.flushed out.new) (K.held out.new) }
+    ensures untouched { IsRefusal (class_of result) → (src.new ≡ src.old) × (out.new ≡ out.old) }
+    ensures cause { Causes result (count (L.faults lib.old) (L.faults lib.new)) (count (S.faults src.old) (S.faults src.new)) (count (K.faults out.old) (K.faults out.new)) }
 {
     match script_of(alloc, name, lib) {
-        Ok(script) => run_script(alloc, &script, src, out),
+        Ok(script) => run_script(rt, alloc, &script, src, out),
         Err(status) => status,
     }
 }
 
 // Runs a script.
-fn run_script<S: Source, K: Sink>(
+fn run_script<R: Threads + Sync, S: Source, K: Sink>(
+    rt: &R,
     alloc: Global,
     script: &Script,
     src: &mut S,
     out: &mut K,
 ) -> Status
-    ensures ran { RunsBuilt script.now (ends (S.left src.old) (S.left src.new) (K.held out.old) (K.held out.new)) result }
-    ensures flushed { HandsOn result (K.flushed out.new) (K.held out.new) }
-    ensures untouched { IsRefusal result → (src.new ≡ src.old) × (out.new ≡ out.old) }
-    ensures cause { PlainCause result (count 0 0) (count (S.faults src.old) (S.faults src.new)) (count (K.faults out.old) (K.faults out.new)) }
+    ensures ran { Runs script.now (ends (S.left src.old) (S.left src.new) (K.held out.old) (K.held out.new)) result }
+    ensures flushed { IsHandedOn (class_of result) (K.flushed out.new) (K.held out.new) }
+    ensures untouched { IsRefusal (class_of result) → (src.new ≡ src.old) × (out.new ≡ out.old) }
+    ensures cause { Causes result (count 0 0) (count (S.faults src.old) (S.faults src.new)) (count (K.faults out.old) (K.faults out.new)) }
 {
     match script.main() {
         Stage::Atomic(f) => run_atomic(alloc, script.funs().muscle(*f), src, out),
@@ -110,11 +122,11 @@ fn run_script<S: Source, K: Sink>(
 
 // Checks the script of a file.
 fn check_file<L: Library, K: Sink>(alloc: Global, name: &str, lib: &mut L, out: &mut K) -> Status
-    ensures checked { (left : Option (List ℕ)) → OfFile ChecksText (L.file lib.old name.now) (ends left left (K.held out.old) (K.held out.new)) result }
-    ensures ending { EndsCheck result }
-    ensures flushed { HandsOn result (K.flushed out.new) (K.held out.new) }
-    ensures untouched { IsRefusal result → out.new ≡ out.old }
-    ensures cause { PlainCause result (count (L.faults lib.old) (L.faults lib.new)) (count 0 0) (count (K.faults out.old) (K.faults out.new)) }
+    ensures checked { (left : Option (List ℕ)) → OfFile Checks (L.file lib.old name.now) (ends left left (K.held out.old) (K.held out.new)) result }
+    ensures asked { Told (L.asked lib.old) (L.asked lib.new) (IsAsked name.now) }
+    ensures flushed { IsHandedOn (class_of result) (K.flushed out.new) (K.held out.new) }
+    ensures untouched { IsRefusal (class_of result) → out.new ≡ out.old }
+    ensures cause { Causes result (count (L.faults lib.old) (L.faults lib.new)) (count 0 0) (count (K.faults out.old) (K.faults out.new)) }
 {
     match script_of(alloc, name, lib) {
         Ok(script) => check_script(alloc, &script, out),
@@ -124,10 +136,10 @@ fn check_file<L: Library, K: Sink>(alloc: Global, name: &str, lib: &mut L, out: 
 
 // Writes what a check says of a script.
 fn check_script<K: Sink>(alloc: Global, script: &Script, out: &mut K) -> Status
-    ensures checked { Checks script.now (K.held out.old) (K.held out.new) result }
-    ensures flushed { HandsOn result (K.flushed out.new) (K.held out.new) }
-    ensures untouched { IsRefusal result → out.new ≡ out.old }
-    ensures cause { PlainCause result (count 0 0) (count 0 0) (count (K.faults out.old) (K.faults out.new)) }
+    ensures wrote { Wrote script.now (K.held out.old) (K.held out.new) result }
+    ensures flushed { IsHandedOn (class_of result) (K.flushed out.new) (K.held out.new) }
+    ensures untouched { IsRefusal (class_of result) → out.new ≡ out.old }
+    ensures cause { Causes result (count 0 0) (count 0 0) (count (K.faults out.old) (K.faults out.new)) }
 {
     let Ok(text) = check_text(alloc, script) else {
         return Status::Memory;
@@ -154,8 +166,8 @@ fn check_text(alloc: Global, script: &Script) -> Result<Vec<u8>, NoMemory>
 // The script of a file, or why there is none.
 fn script_of<L: Library>(alloc: Global, name: &str, lib: &mut L) -> Result<Script, Status>
     ensures script { IsScriptOf (L.file lib.old name.now) result }
-    ensures refusal { IfErr result IsNoScript }
-    ensures cause { FetchesScript result (count (L.faults lib.old) (L.faults lib.new)) }
+    ensures asked { Told (L.asked lib.old) (L.asked lib.new) (IsAsked name.now) }
+    ensures cause { Declines result (count (L.faults lib.old) (L.faults lib.new)) }
 {
     match lib.fetch(alloc, name, MOST_SCRIPT_BYTES) {
         Fetched::Bytes(text) => script_in(alloc, text.as_slice()),
@@ -168,8 +180,7 @@ fn script_of<L: Library>(alloc: Global, name: &str, lib: &mut L) -> Result<Scrip
 // The script of a text, or why it is none.
 fn script_in(alloc: Global, text: &[u8]) -> Result<Script, Status>
     requires { length text.now ≤ MOST_SCRIPT_BYTES }
-    ensures script { IsScriptOf (Some text.now) result }
-    ensures refusal { IfErr result IsNoScript }
+    ensures script { IsScriptIn text.now result }
     ensures read { IfErr result (λ s. s ≡ Status.Library → ⊥) }
 {
     match read_script(alloc, text) {

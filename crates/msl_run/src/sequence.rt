@@ -1,12 +1,13 @@
-ghost use Rattle.std.specs.Prelude.{◌≡◌, IfErr};
+ghost use Rattle.std.specs.Prelude.{◌≡◌};
 ghost use Rattle.std.specs.Io.KnownBytes.{Keeps};
 ghost use Rattle.msl_base.specs.Streams.{pointwise};
 ghost use Rattle.msl_io.specs.Lines.{most_lines};
 ghost use Rattle.msl_io.specs.Reader.{MayGoOn};
 ghost use Rattle.msl_program.specs.Calls.{atomic_outcome};
-ghost use Rattle.msl_run.specs.Headline.{RanTold};
-ghost use Rattle.msl_run.specs.Causes.{StreamCause, IsEnding, HandsOn, count};
-ghost use Rattle.msl_run.specs.Steps.{next_of, ReadEnds, Takes, TakeCause, Stepped, StepCause, Flushed};
+ghost use Rattle.msl_run.specs.Causes.{Causes, count};
+ghost use Rattle.msl_run.specs.Headline.{RanTold, ends};
+ghost use Rattle.msl_run.specs.Statuses.{class_of, IsHandedOn};
+ghost use Rattle.msl_run.specs.Steps.{next_of, Takes, TakeCause, Stepped, StepCause, Flushed};
 
 use crate::status::Status;
 use msl_base::{Fault, Rec};
@@ -24,10 +25,9 @@ pub fn run_atomic<S: Source, K: Sink>(
     src: &mut S,
     out: &mut K,
 ) -> Status
-    ensures ran { RanTold (λ X Y. Y ≡ pointwise (atomic_outcome f.entry.funs.now 1 f.entry.at) X) (S.left src.old) (S.left src.new) (K.held out.old) (K.held out.new) result }
-    ensures cause { StreamCause result (count (S.faults src.old) (S.faults src.new)) (count (K.faults out.old) (K.faults out.new)) }
-    ensures ending { IsEnding result }
-    ensures flushed { HandsOn result (K.flushed out.new) (K.held out.new) }
+    ensures ran { RanTold (λ X Y. Y ≡ pointwise (atomic_outcome f.entry.funs.now 1 f.entry.at) X) (ends (S.left src.old) (S.left src.new) (K.held out.old) (K.held out.new)) result }
+    ensures cause { Causes result (count 0 0) (count (S.faults src.old) (S.faults src.new)) (count (K.faults out.old) (K.faults out.new)) }
+    ensures flushed { IsHandedOn (class_of result) (K.flushed out.new) (K.held out.new) }
 {
     let Ok(mut reader) = LineReader::new(alloc, u32::MAX) else {
         return Status::Memory
@@ -51,7 +51,6 @@ fn take_record<S: Source>(reader: &mut LineReader, src: &mut S) -> Result<Rec, S
     requires lines { reader.old.lines ≡ most_lines }
     ensures takes { Takes reader.old.stopped (S.left src.old) (S.left src.new) reader.old reader.new result }
     ensures lines { reader.new.lines ≡ most_lines }
-    ensures ending { IfErr result ReadEnds }
     ensures cause { TakeCause result (S.faults src.old) (S.faults src.new) }
 {
     next_record(reader.next(src))
@@ -77,7 +76,7 @@ fn next_record(line: Line) -> Result<Rec, Status>
 pub fn flushed<K: Sink>(out: &mut K, status: Status) -> Status
     ensures kept { Keeps (K.held out.old) (K.held out.new) }
     ensures status { Flushed status result (K.faults out.old) (K.faults out.new) }
-    ensures flushed { HandsOn result (K.flushed out.new) (K.held out.new) }
+    ensures flushed { IsHandedOn (class_of result) (K.flushed out.new) (K.held out.new) }
 {
     match out.flush() {
         Ok(()) => status,

@@ -1,5 +1,5 @@
 ghost use Rattle.std.specs.Prelude.{◌≡◌};
-ghost use Rattle.msl_run.specs.Causes.{code_of};
+ghost use Rattle.msl_run.specs.Statuses.{code_of};
 
 use msl_base::Fault;
 use msl_lex::Kind;
@@ -18,7 +18,7 @@ pub enum Status {
     /// The text is no script: the first test that fails, and the place in bytes at which the token begins that it
     /// names.
     Script(Kind, u32),
-    /// At `seq`, the script's main stage isn't one function.
+    /// At `seq`, the script's main stage isn't `atomic`.
     Unbuilt,
     /// The stream ended with this fault.
     Stream(Fault),

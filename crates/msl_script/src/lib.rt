@@ -3,10 +3,11 @@
 //! `read_script` reads one from a text, or gives the first test that fails with its place; so each `Script` keeps all
 //! rules of the language. `print_script` writes it in its canonical form, and `need` says how many processes it needs.
 //!
-//! No code stands here. The specifications say what a text is read as (`ScriptGrammar`, `ScriptReading`), which rules a
-//! script keeps (`ScriptPromise`, with `Promises` and `ProgramPromise` for its definitions), how one is written
-//! (`ScriptText`), how many processes it needs (`Need`), and what it makes of a stream of records (`Runs`, over the
-//! meanings of `Data`, `Divide`, `Searches` and `Filters`, and with laws of them in `RunLaws`).
+//! No code stands here, and nothing is promised beyond what the crates below promise. The specifications say what a
+//! text is read as (`ScriptGrammar`, `ScriptReading`), which rules a script keeps (`ScriptPromise`, with `Promises` and
+//! `ProgramPromise` for its definitions), how one is written (`ScriptText`), how many processes it needs (`Need`), and
+//! what it makes of a stream of records (`Runs`, over the meanings of `Data`, `Divide`, `Searches` and `Filters`, and
+//! with laws of them in `RunLaws`).
 #![tactic(auto)]
 
 pub use msl_lex::Kind;

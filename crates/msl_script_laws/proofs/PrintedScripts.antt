@@ -1,5 +1,5 @@
 -- The text of a script is laid, and it is read as the script.
-use Rattle.std.proofs.Common.{◌≡◌, ◌<◌, ℕ, Bool, true, false, not, List, [], ◌∷◌, ◌++◌, length, map, get_or, codes, refl, ap, sym, subst, ◌∙◌, append_assoc, append-nil, arith}
+use Rattle.std.proofs.Common.{◌≡◌, ◌<◌, ℕ, Bool, true, false, not, List, [], ◌∷◌, ◌++◌, length, map, get_or, codes, refl, Ok, ap, sym, subst, ◌∙◌, append_assoc, append-nil, arith}
 use Rattle.std.proofs.lemmas.List.{length-map, map-append}
 use Rattle.msl_lex.specs.Lexemes.{Lexeme, word, close, lexeme}
 use Rattle.msl_lex.specs.Printing.{Bit, token, blank, text_of, forms_of}
@@ -24,7 +24,7 @@ use Rattle.msl_program.specs.declared.stage.Stage.{Stage}
 use Rattle.msl_grammar.specs.Known.{AreAmong}
 use Rattle.msl_program.specs.Known.{Known, script_of, nothing_known, is_declared, data_names, filter_names, divcon_names, bnb_names, with_fun, with_data, with_filter, with_divcon, with_bnb}
 use Rattle.msl_program.specs.Fitting.{IsWhole}
-use Rattle.msl_grammar.specs.ScriptGrammar.{State, items, finish, main_rule, outermost, no_stages, script_rule, whole, of_tokens, ReadsAs}
+use Rattle.msl_grammar.specs.ScriptGrammar.{State, items, finish, main_rule, outermost, no_stages, script_rule, whole, ReadsAs}
 use Rattle.msl_grammar.specs.ScriptGrammar as grammar
 use Rattle.msl_program.specs.ScriptPromise.{Item, fun_item, data_item, filter_item, divcon_item, bnb_item, with_item, with_items, built, ItemFits, EachFits, IsMain, IsScript}
 use Rattle.msl_script_print.specs.ScriptText.{line_end, in_order, items_of, item_bits, items_bits, stage_bits, script_bits, AllOpenFew, OpensFewIn}
@@ -254,7 +254,7 @@ reads_as : (s : Script) (bits : List Bit) → Goes script_rule bits (finish s) �
 reads_as s bits h =
     let all = laid_says_all bits h.laid in
     let up = says_up bits all.tokens all.forms in
-    ap of_tokens all.said ∙ (ap whole (h.goes all.tokens [] up.end up.said) ∙ closed s (up.end ∷ []) (omega arith) (ap is_close up.is))
+    record { said = Ok all.tokens; laid = all.said; read = ap whole (h.goes all.tokens [] up.end up.said) ∙ closed s (up.end ∷ []) (omega arith) (ap is_close up.is) }
 
 pub reads_back : (s : Script) → IsScript s → OpensFewIn s → ReadsAs (text_of (script_bits s)) s
 reads_back s is few =

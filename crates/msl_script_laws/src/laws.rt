@@ -5,7 +5,7 @@ ghost use Rattle.std.specs.Prelude.{◌≡◌, ℕ, List, pos, negsuc, [], ◌�
 ghost use Rattle.msl_lex.specs.declared.kind.Kind.TheVariants.{Expected, Version, InFarm, Unknown, Width, Number};
 ghost use Rattle.msl_read.specs.Reading.{Refusal};
 ghost use Rattle.msl_program.specs.Script.{Script};
-ghost use Rattle.msl_grammar.specs.ScriptGrammar.{ReadsAs, reading, script_of_text, script_rule, whole};
+ghost use Rattle.msl_grammar.specs.ScriptGrammar.{ReadsAs, ReadsTo, reading, script_of_text, script_rule, whole};
 ghost use Rattle.msl_lex.specs.Lexemes.{Lexeme};
 ghost use Rattle.msl_lex.specs.Spelling.{AreSpelt};
 ghost use Rattle.msl_program.specs.Fitting.{IsWhole};
@@ -17,11 +17,12 @@ ghost use Rattle.msl_script_laws.specs.Meanings.{made_by, made_of, needed_by, to
 ghost use Rattle.msl_script_laws.specs.Constructs.{every, every_text};
 ghost use Rattle.msl_script_laws.specs.Rows.{head, squares_text, squares, sums_text, sums};
 
-/// A text is a script or is refused, and never both; it is one script at most.
+/// A text is a script or is refused, and never both; it is one script at most. It is read as what is computed of it.
 pub fn one_reading(text: &[u8])
     ensures some { HasReading text.now }
     ensures apart { (s : Script) (r : Refusal) → ReadsAs text.now s → IsRefusedAs text.now r → ⊥ }
     ensures one { (s t : Script) → ReadsAs text.now s → ReadsAs text.now t → s ≡ t }
+    ensures computed { ReadsTo text.now (script_of_text text.now) }
 {}
 
 /// Texts that are scripts.

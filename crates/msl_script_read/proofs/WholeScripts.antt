@@ -3,7 +3,7 @@ use Rattle.std.proofs.Common.{◌≡◌, ◌<◌, ◌≤◌, ◌+◌, ◌*◌, �
 use Rattle.std.specs.Prelude.{nat_lt, nat_le, map}
 use Rattle.std.proofs.lemmas.Bool.{leb-true}
 use Rattle.std.proofs.lemmas.List.{length-map}
-use Rattle.msl_lex.specs.Lexemes.{Form, Lexeme, word, number, sign, close, lexemes, greatest_number}
+use Rattle.msl_lex.specs.Lexemes.{Form, Lexeme, word, number, sign, close, greatest_number}
 use Rattle.msl_lex.specs.declared.kind.Kind.{Kind}
 use Rattle.msl_lex.specs.declared.kind.Kind.TheVariants as kind
 use Rattle.msl_lex.specs.declared.token.LexFault.{LexFault}
@@ -48,12 +48,12 @@ use Rattle.msl_program.specs.Widths.{allows, IsFunction}
 use Rattle.msl_ops.specs.Operators.{has_modulus, op_of}
 use Rattle.msl_program.specs.Programs.{no_lines, with_line, line_names, suits, turned, blocks_of, given}
 use Rattle.msl_grammar.specs.Uses.{shape_of, used, use_spec, use_fits}
-use Rattle.msl_grammar.specs.ScriptGrammar.{State, Turn, filter_rule, divcon_rule, bnb_rule, data_rule, give_rule, line_rest, one_arg, Step, part_rule, array_rule, matrix_rule, with_one, with_two, fold_rule, scan_rule, foldl_rule, broadcast_rule, transpose_rule, step_by, with_modulus, operator_by, operator_turn, one_primitive, one_filter, one_deeper, few_primitives, nest_test, on_members, atomic_rule, filter_stage_rule, farm_rule, pipe_rule, stage_turn, few_items, of_fun, outermost, no_stages, main_rule, items_turn, name_turn, number_turn, integer_turn, is_between, of_kind, fun_place, function_tests, line_tests, line_found, arg_turn, close_turn, on, reading, script_rule, whole, of_tokens, script_of_text, token, version, a_fun, fresh, a_function, a_definition, a_number, a_natural, a_placed_number, an_integer, items, a_state_number, more_state_numbers, lines, a_step, maybe_part, a_size, a_use_name, maybe_args, more_args, an_arg, a_line, a_container, a_block_of, an_operator, a_stage, more_stages, finish}
+use Rattle.msl_grammar.specs.ScriptGrammar.{State, Turn, filter_rule, divcon_rule, bnb_rule, data_rule, give_rule, line_rest, one_arg, Step, part_rule, array_rule, matrix_rule, with_one, with_two, fold_rule, scan_rule, foldl_rule, broadcast_rule, transpose_rule, step_by, with_modulus, operator_by, operator_turn, one_primitive, one_filter, one_deeper, few_primitives, nest_test, on_members, atomic_rule, filter_stage_rule, farm_rule, pipe_rule, stage_turn, few_items, of_fun, outermost, no_stages, main_rule, items_turn, name_turn, number_turn, integer_turn, is_between, of_kind, fun_place, function_tests, line_tests, line_found, arg_turn, close_turn, on, reading, script_rule, whole, of_tokens, ReadsAs, token, version, a_fun, fresh, a_function, a_definition, a_number, a_natural, a_placed_number, an_integer, items, a_state_number, more_state_numbers, lines, a_step, maybe_part, a_size, a_use_name, maybe_args, more_args, an_arg, a_line, a_container, a_block_of, an_operator, a_stage, more_stages, finish}
 use Rattle.msl_program.specs.Known.{script_of}
 use Rattle.msl_lex.specs.Spelling.{IsSpelt, AreSpelt, IsInteger, AreIntegers}
 use Rattle.msl_program.specs.ProgramPromise.{shape_at, shape_after, one_line, program_of, IsLine, IsArgument, AreArguments, IsUse, IsOperator, IsBetween, IsPlace, IsStep, LineFits, EachLineFits}
 use Rattle.msl_program.specs.ScriptPromise.{Item, fun_item, data_item, filter_item, divcon_item, bnb_item, with_item, with_items, built, ItemFits, EachFits, filters_of, height, IsSized, IsScript}
-use Rattle.msl_lex.proofs.Spelt.{AllSpelt, lexemes_spelt}
+use Rattle.msl_lex.proofs.Spelt.{AllSpelt, of_layout}
 use Rattle.msl_script_read.proofs.WholeFunctions.{FunLeads, FunTurns, IsWholeFun, first_test, spelt_name, placed, fun_leads_on}
 use Rattle.msl_script_read.proofs.WholeStages.{FitsIn, of_main, IsStage, AreStages, first_stage, one_stage, of_pipe, of_farm}
 
@@ -601,5 +601,5 @@ of_lexemes (Err (fault.LongName at)) spelt = tt
 of_lexemes (Err (fault.Number at)) spelt = tt
 of_lexemes (Err fault.NoMemory) spelt = tt
 
-pub script_read : (text : List ℕ) (s : Script) → script_of_text text ≡ Ok s → IsScript s
-script_read text s is = subst IsScriptFound is (of_lexemes (lexemes text) (lexemes_spelt text))
+pub script_read : (text : List ℕ) (s : Script) → ReadsAs text s → IsScript s
+script_read text s is = subst IsScriptFound is.read (of_lexemes is.said (of_layout 0 text is.said is.laid))

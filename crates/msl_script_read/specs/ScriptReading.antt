@@ -6,11 +6,11 @@ use Rattle.msl_read.specs.declared.fault.ReadFault.TheVariants.{At, NoMemory}
 use Rattle.msl_program.specs.Script.{Script}
 use Rattle.msl_script_read.specs.declared.script.ScriptReader.{ScriptReader}
 use Rattle.msl_grammar.specs.Known.{IsKnown}
-use Rattle.msl_grammar.specs.ScriptGrammar.{items, main_rule, reading, script_of_text, ReadsAs}
+use Rattle.msl_grammar.specs.ScriptGrammar.{items, main_rule, reading, ReadsTo, ReadsAs}
 
 -- the text is refused, with this kind at this place
 abbrev pub IsRefusedAs : List ℕ → Refusal → Type 0
-IsRefusedAs text r = script_of_text text ≡ Err r
+IsRefusedAs text r = ReadsTo text (Err r)
 
 -- the script of the text, or its refusal; want of memory says nothing
 abbrev pub IsReading : List ℕ → Result Script ReadFault → Type 0

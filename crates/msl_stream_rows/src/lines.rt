@@ -23,14 +23,16 @@ fn reads_as(
     }
 }
 
-fn numbers(line: &Line) -> Option<&[i64]> {
+/// The record, where there is one.
+pub fn numbers(line: &Line) -> Option<&[i64]> {
     match line {
         Line::Rec(rec) => Some(rec.as_slice()),
         _ => None,
     }
 }
 
-fn stop_of(line: &Line) -> Option<Stop> {
+/// Why there is no record.
+pub fn stop_of(line: &Line) -> Option<Stop> {
     match line {
         Line::Rec(_) => None,
         Line::End => Some(Stop::End),
@@ -135,22 +137,42 @@ impl Source for Repeat {
     }
 }
 
-// A record of so many numbers, or this end.
-fn is_answer(line: &Line, len: usize, stop: Stop) -> bool {
-    match numbers(line) {
-        Some(numbers) => numbers.len() == len,
-        None => stop_of(line) == Some(stop),
-    }
-}
-
-// Two bytes that repeat, how many come, the record's length, the end, and how many are read at most.
-const LONG: &[([u8; 2], usize, usize, Stop, usize)] = &[
-    ([b'0', b'0'], 33_554_432, 1, Stop::End, 33_554_432),
-    ([b'x', b'x'], 33_554_433, 0, Stop::LongLine(1), 33_554_433),
-    ([b'x', b'x'], 99_999_999, 0, Stop::LongLine(1), 33_558_528),
-    ([b'0', b' '], 2_097_152, 1_048_576, Stop::End, 2_097_152),
-    ([b'0', b' '], 2_097_153, 0, Stop::WideRecord(1), 2_097_153),
+// Two bytes that repeat, how many come, the length of the record if there is one, the end, and how many are read at most.
+const LONG: &[([u8; 2], usize, Option<usize>, Stop, usize)] = &[
+    ([b'0', b'0'], 33_554_432, Some(1), Stop::End, 33_554_432),
+    (
+        [b'x', b'x'],
+        33_554_433,
+        None,
+        Stop::LongLine(1),
+        33_554_433,
+    ),
+    (
+        [b'x', b'x'],
+        99_999_999,
+        None,
+        Stop::LongLine(1),
+        33_558_528,
+    ),
+    (
+        [b'0', b' '],
+        2_097_152,
+        Some(1_048_576),
+        Stop::End,
+        2_097_152,
+    ),
+    (
+        [b'0', b' '],
+        2_097_153,
+        None,
+        Stop::WideRecord(1),
+        2_097_153,
+    ),
 ];
+
+fn length(line: &Line) -> Option<usize> {
+    Some(numbers(line)?.len())
+}
 
 #[test]
 fn refuses_long_and_wide_lines(rt: HostRuntime) -> Result<(), Fail> {
@@ -161,11 +183,61 @@ fn refuses_long_and_wide_lines(rt: HostRuntime) -> Result<(), Fail> {
             given: 0,
         };
         let mut reader = LineReader::new(rt.alloc(), 2)?;
-        for _ in 0..2 {
-            assert!(rt; is_answer(&reader.next(&mut src), len, stop));
+        if len.is_some() {
+            assert_eq!(rt; length(&reader.next(&mut src)), len);
         }
-        assert_eq!(rt; stop_of(&reader.next(&mut src)), Some(stop));
+        for _ in 0..2 {
+            assert_eq!(rt; stop_of(&reader.next(&mut src)), Some(stop));
+        }
         assert!(rt; src.given <= most);
+    }
+    Ok(())
+}
+
+// A source that counts how often it is asked.
+#[derive(Drop)]
+struct Counted {
+    left: &'static [u8],
+    calls: usize,
+}
+
+impl Source for Counted {
+    ghost left = { λ s. None };
+
+    ghost faults = { λ s. 0 };
+
+    fn read(&mut self, buf: &mut [u8]) -> Result<usize, Failed> {
+        self.calls = self.calls.saturating_add(1);
+        let n = buf.len().min(self.left.len());
+        let (given, left) = self.left.split_at(n);
+        buf[..n].copy_from_slice(given);
+        self.left = left;
+        Ok(n)
+    }
+}
+
+// The bytes, how many answers there are up to the one behind which only the end comes, and the end.
+const LAST: &[(&[u8], usize, Stop)] = &[
+    (b"", 1, Stop::End),
+    (b"1\n2\n", 3, Stop::End),
+    // The record of a last line that no LF ends is the last that can come.
+    (b"1\n2", 2, Stop::End),
+    (b"1\nx\n3\n", 2, Stop::BadRecord(2)),
+];
+
+#[test]
+fn asks_nothing_behind_the_end(rt: HostRuntime) -> Result<(), Fail> {
+    for &(left, answers, stop) in LAST {
+        let mut src = Counted { left, calls: 0 };
+        let mut reader = LineReader::new(rt.alloc(), 9)?;
+        for _ in 0..answers {
+            reader.next(&mut src);
+        }
+        let calls = src.calls;
+        for _ in 0..2 {
+            assert_eq!(rt; stop_of(&reader.next(&mut src)), Some(stop));
+        }
+        assert_eq!(rt; src.calls, calls);
     }
     Ok(())
 }

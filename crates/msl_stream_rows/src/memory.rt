@@ -8,8 +8,8 @@ use msl_io::{
 use std::alloc::Global;
 use std::test::Fail;
 
-// The call of this number.
-fn call(alloc: Global, number: u64) -> Result<Calls, Fail> {
+/// The call of this number.
+pub fn call(alloc: Global, number: u64) -> Result<Calls, Fail> {
     Ok(Calls::from_vec(vec![in alloc; number]?))
 }
 
@@ -36,8 +36,8 @@ const CALLS: &[(&[u8], Result<usize, Failed>)] = &[
     (b"f", Err(Failed)),
 ];
 
-// A write of these bytes, or a flush where there are none.
-fn write(sink: &mut MemSink, bytes: &[u8]) -> Result<usize, Failed> {
+/// A write of these bytes, or a flush where there are none.
+pub fn write<K: Sink>(sink: &mut K, bytes: &[u8]) -> Result<usize, Failed> {
     if !bytes.is_empty() {
         return sink.write(bytes);
     }
@@ -63,13 +63,15 @@ fn file(alloc: Global, name: &str, text: &[u8]) -> Result<File, Fail> {
     Ok(File { name, bytes })
 }
 
-// Two files of one name, and a failing call.
+const FILES: &[(&str, &[u8])] = &[("a", b"one"), ("c", b"three"), ("a", b"two")];
+
+// These files, and a failing call.
 fn library(alloc: Global, failing: u64) -> Result<MemLibrary, Fail> {
     let mut files = FileList::new(alloc);
-    for text in [b"one".as_slice(), b"two"] {
-        files.add(file(alloc, "a", text)?)?;
+    for &(name, text) in FILES {
+        files.add(file(alloc, name, text)?)?;
     }
-    Ok(MemLibrary::new(files, call(alloc, failing)?))
+    Ok(MemLibrary::new(alloc, files, call(alloc, failing)?))
 }
 
 /// What a fetch gives: the bytes, or a word.
@@ -97,6 +99,23 @@ fn a_library_fails_where_it_is_told_to(rt: HostRuntime) -> Result<(), Fail> {
     for &(name, limit, want) in FETCHES {
         let fetched = library.fetch(rt.alloc(), name, limit);
         assert_eq!(rt; told(&fetched), want.as_bytes());
+    }
+    Ok(())
+}
+
+// What is fetched, of at most so many bytes.
+const ASKED: &[(&str, usize)] = &[("c", 5), ("a", 3), ("a", 2), ("c", 9)];
+
+// Each name that gives a file, or a file that is too long, is noted in its turn.
+#[test]
+fn a_library_notes_what_it_is_asked_for(rt: HostRuntime) -> Result<(), Fail> {
+    let mut library = library(rt.alloc(), 9)?;
+    for &(name, limit) in ASKED {
+        library.fetch(rt.alloc(), name, limit);
+    }
+    assert_eq!(rt; library.asked().len(), ASKED.len());
+    for (asked, (want, _)) in library.asked().iter().zip(ASKED) {
+        assert_eq!(rt; asked.as_str(), *want);
     }
     Ok(())
 }

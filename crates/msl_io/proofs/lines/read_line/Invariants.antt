@@ -1,5 +1,5 @@
-use Rattle.std.proofs.Common.{◌++◌, ◌<◌, ◌≤◌, ◌-◌}
-use Rattle.msl_io.specs.Known.{Told}
+use Rattle.std.proofs.Common.{◌≡◌, ◌++◌, ◌<◌, ◌≤◌, ◌-◌}
+use Rattle.msl_outside.specs.Known.{Told}
 use Rattle.msl_io.specs.Lines.{most_bytes}
 use Rattle.msl_io.specs.Taking.{Took}
 use Rattle.msl_io.proofs.lines.read_line.Given as goal
@@ -7,7 +7,7 @@ use Rattle.msl_io.proofs.lines.read_line.Given as goal
 abbrev pub invariant-parts : goal.invariant-parts
 invariant-parts g l = record {
   took : Told (g.S.Source.left l.fn.src) (g.S.Source.left l.src) (λ left left'. Took (l.fn.chunk ++ left) l.chunk left' l.text);
-  later : g.S.Source.faults l.fn.src ≤ g.S.Source.faults l.src;
+  count : g.S.Source.faults l.src ≡ g.S.Source.faults l.fn.src;
   room : 0 < l.text.len → l.read < l.lines;
   short : l.text.len ≤ most_bytes;
 }

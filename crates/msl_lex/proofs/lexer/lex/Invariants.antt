@@ -1,5 +1,6 @@
 use Rattle.std.proofs.Common.{◌≡◌, ◌-◌, ◌≤◌, length, map, drop}
-use Rattle.msl_lex.specs.Lexemes.{lexemes, lexemes_from, lexeme_of}
+use Rattle.msl_lex.specs.Lexemes.{lexeme_of}
+use Rattle.msl_lex.specs.Computing.{lexemes, lexemes_from}
 use Rattle.msl_lex.proofs.Steps.{before}
 use Rattle.msl_lex.proofs.lexer.lex.Given as goal
 

@@ -1,10 +1,10 @@
-use Rattle.std.proofs.Common.{◌+◌, ◌++◌, ℕ, Result, IfErr, ap, sym, subst, IsNone, ◌∙◌}
+use Rattle.std.proofs.Common.{◌+◌, ◌++◌, ℕ, Result, ap, sym, subst, IsNone, ◌∙◌}
 use Rattle.msl_base.specs.declared.rec.Rec.{Rec}
 use Rattle.msl_io.specs.Known.{Told}
-use Rattle.msl_io.specs.Reader.{Reads}
-use Rattle.msl_run.specs.Steps.{ReadEnds, Takes, TakeCause}
+use Rattle.msl_io.specs.Reader.{Reads, after_of}
+use Rattle.msl_run.specs.Steps.{Takes, TakeCause}
 use Rattle.msl_run.specs.declared.status.Status.{Status}
-use Rattle.msl_run.proofs.Endings.{taken, take_cause, read_ends}
+use Rattle.msl_run.proofs.Endings.{taken, take_cause}
 use Rattle.msl_run.proofs.sequence.take_record.Goals as goal
 
 pub returns-clause-takes : goal.returns-clause-takes
@@ -13,15 +13,12 @@ returns-clause-takes g c =
     let d = g.S.Source.left c.next.new.src in
     let old = c.args.reader.now in
     let new = c.next.new.self in
-    let reads = λ (none : IsNone old.stopped). subst (λ (i : ℕ). Told b d (λ x y. Reads i (old.read + 1) (old.rest ++ x) (new.rest ++ y) y new.stopped c.next.result)) c.requires.lines (c.next.ensures.line none) in
+    let reads = λ (none : IsNone old.stopped). subst (λ (i : ℕ). Told b d (λ x y. Reads (record { limit = i; number = old.read + 1; bytes = old.rest ++ x }) (after_of new y) c.next.result)) c.requires.lines (c.next.ensures.line none) in
     subst (Takes old.stopped b d old new) (sym c.next_record.ensures)
     (taken b d old new c.next.result old.stopped c.requires.going reads c.next.ensures.counts (λ some. let w = c.next.ensures.again some in (w.0, ap g.S.Source.left w.2)))
 
 pub returns-clause-lines : goal.returns-clause-lines
 returns-clause-lines g c = c.next.ensures.lines ∙ c.requires.lines
-
-pub returns-clause-ending : goal.returns-clause-ending
-returns-clause-ending g c = subst (λ (r : Result Rec Status). IfErr r ReadEnds) (sym c.next_record.ensures) (read_ends c.next.result)
 
 pub returns-clause-cause : goal.returns-clause-cause
 returns-clause-cause g c =
