@@ -1,0 +1,4 @@
+pub mod Exchanges
+pub mod Grids
+pub mod Rows
+pub mod Turns

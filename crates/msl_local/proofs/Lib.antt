@@ -1,0 +1,5 @@
+pub mod Parts
+pub mod Blocks
+pub mod Cells
+pub mod FoldParts
+pub mod Together
