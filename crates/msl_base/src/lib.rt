@@ -13,7 +13,7 @@
 //!   whole; a whole output is sound; the order of the input is one of the orders of a farm; blocks lie side by side.
 //!   Worked examples of streams.
 //!
-//! No crate takes `Answer`, `Halt` and `End` so far.
+//! No crate takes `Answer` and `End` so far.
 #![tactic(auto)]
 
 mod answer;

@@ -1,7 +1,8 @@
 -- A fold goes from block to block.
-use Rattle.std.proofs.Common.{◌≡◌, ◌≤◌, ◌+◌, ◌-◌, ◌^◌, ℕ, ℤ, List, ◌++◌, length, take, All, FitsSigned, w64, sym, ap, subst, ◌∙◌, arith, length-take, take_all}
+use Rattle.std.proofs.Common.{◌≡◌, ◌<◌, ◌≤◌, ◌+◌, ◌-◌, ◌^◌, ℕ, ℤ, List, ◌++◌, length, take, All, FitsSigned, w64, sym, ap, subst, ◌∙◌, arith, length-take, take_all, pos, slice_index_or, to_z, of_z}
 use Rattle.std.specs.Int.{w128}
 use Rattle.std.proofs.Math.Seq.{take-add}
+use Rattle.std.proofs.lemmas.Int.{to_z-of_z}
 use Rattle.std.proofs.lemmas.List.Elements.{All-take, All-drop}
 use Rattle.msl_base.specs.Blocks.{begin}
 use Rattle.msl_ops.specs.declared.op.Op.{Op}
@@ -9,7 +10,7 @@ use Rattle.msl_ops.specs.Meaning.{unit_of, lift_of, combine_of, IsInDomainOf, fo
 use Rattle.msl_ops.specs.Lawful.{IsLawful}
 use Rattle.msl_ops.specs.Keeping.{lawful_of}
 use Rattle.msl_ops.proofs.Parts.{folded_within, folded_parts}
-use Rattle.msl_local.specs.Folds.{elements_of, before}
+use Rattle.msl_local.specs.Folds.{elements_of, before, AreFolds}
 use Rattle.msl_local.proofs.Blocks.{begin_next, begin_last}
 
 -- what stands before a block combines with it to what stands before the next
@@ -45,6 +46,14 @@ fold_step op a b j total mine few all is_total is_mine =
       fits = subst (FitsSigned w128) (sym next) (laws.fits (before a b (j + 1)) short (All-take (FitsSigned w64) (begin (length a) b (j + 1)) a all));
       next = next;
     }
+
+-- the same where the code reads the fold of block j
+pub step_at : (op : Op) (a : List ℤ) (b : ℕ) (folds : List ℤ) (j : ℕ) (total : ℤ) → length a ≤ 2 ^ 60 → All (FitsSigned w64) a → AreFolds op a b folds → j < b
+    → FitsSigned w128 (slice_index_or folds j (pos 0)) → total ≡ fold_of op.kind op.modulus (before a b j)
+    → IsStep op a b j total (to_z w128 (of_z w128 (slice_index_or folds j (pos 0))))
+step_at op a b folds j total few all are lt fits is_total =
+    let mine = slice_index_or folds j (pos 0) in
+    fold_step op a b j total (to_z w128 (of_z w128 mine)) few all is_total (to_z-of_z w128 mine fits ∙ are.each j lt)
 
 pub before_all : (a : List ℤ) (b : ℕ) → 1 ≤ b → before a b b ≡ a
 before_all a b some = take_all (begin (length a) b b) a (omega (arith, begin_last (length a) b some))

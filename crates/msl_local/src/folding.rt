@@ -52,8 +52,8 @@ impl Folding<'_> {
     {
         all_fit(self.a);
         let mut total = self.op.unit();
-        for i in 0..folds.len() {
-            total = self.op.combine(total, folds[i]);
+        for j in 0..b {
+            total = self.op.combine(total, folds[j]);
         }
         self.op.settle(total, stage)
     }
@@ -67,9 +67,9 @@ impl Folding<'_> {
         all_fit(self.a);
         let mut starts = room(alloc, b)?;
         let mut total = self.op.unit();
-        for i in 0..folds.len() {
+        for j in 0..b {
             starts.push_reserved(total);
-            total = self.op.combine(total, folds[i]);
+            total = self.op.combine(total, folds[j]);
         }
         Ok(starts)
     }

@@ -11,7 +11,8 @@
 //!   answers as `in_turn` does.
 //!
 //! Both take `Fn`, which several threads may call at once. Which places were tried behind the one that refuses isn't
-//! said, nor in what order, nor how many threads there are. No crate takes this one so far.
+//! said, nor in what order, nor how many threads there are. `msl_local` takes its definitions so far, and no crate its
+//! calls.
 #![tactic(auto)]
 
 pub mod laws;

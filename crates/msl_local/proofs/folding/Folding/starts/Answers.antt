@@ -5,14 +5,11 @@ use Rattle.std.proofs.lemmas.Int.{to_z-of_z}
 use Rattle.std.proofs.lemmas.List.{get_or_append_left, get_or_push}
 use Rattle.msl_ops.specs.Meaning.{fold_of}
 use Rattle.msl_local.specs.Folds.{before}
-use Rattle.msl_local.proofs.FoldParts.{IsStep, fold_step}
+use Rattle.msl_local.proofs.FoldParts.{IsStep, step_at}
 use Rattle.msl_local.proofs.folding.Folding.starts.Goals as goal
 
-step : (c : goal.After-combine-arg-1) → IsStep c.args.self.now.op c.args.self.now.a.now c.args.b c.loop-i.i (to_z w128 c.loop-i.total-bits) (to_z w128 (of_z w128 (slice_index_or c.args.folds.now c.loop-i.i (pos 0))))
-step c =
-    let fits : FitsSigned w128 (slice_index_or c.args.folds.now c.loop-i.i (pos 0)) = search rules in
-    fold_step c.args.self.now.op c.args.self.now.a.now c.args.b c.loop-i.i _ _ c.args.self.now.few c.all_fit.ensures c.loop-i.invariant.total
-    (to_z-of_z w128 (slice_index_or c.args.folds.now c.loop-i.i (pos 0)) fits ∙ c.requires.each c.loop-i.i (omega (arith, c.loop-i-test.true, c.requires.long)))
+step : (c : goal.After-combine-arg-1) → IsStep c.args.self.now.op c.args.self.now.a.now c.args.b c.loop-j.j (to_z w128 c.loop-j.total-bits) (to_z w128 (of_z w128 (slice_index_or c.args.folds.now c.loop-j.j (pos 0))))
+step c = step_at c.args.self.now.op c.args.self.now.a.now c.args.b c.args.folds.now c.loop-j.j (to_z w128 c.loop-j.total-bits) c.args.self.now.few c.all_fit.ensures c.requires c.loop-j-test.true (search rules) c.loop-j.invariant.total
 
 pub combine-total-requires-clause-a : goal.combine-total-requires-clause-a
 combine-total-requires-clause-a c = (step c).total_in
@@ -32,18 +29,16 @@ module _ (P : ℕ → ℤ → Type 0) where
       go (inl h) = subst (P k) (sym (get_or_append_left xs (x ∷ []) (pos 0) k (omega (arith, h, len)))) (each k h)
       go (inr h) = let e : n ≡ k = omega (arith, h, lt) in subst (P k) (sym (get_or_push xs x (pos 0) k (len ∙ e))) (subst (λ z. P z x) e last)
 
-pub loop-i-preserved : goal.loop-i-preserved
-loop-i-preserved c =
-    let fits : FitsSigned w128 (slice_index_or c.args.folds.now c.loop-i.i (pos 0)) = search rules in
-    let s = fold_step c.args.self.now.op c.args.self.now.a.now c.args.b c.loop-i.i (to_z w128 c.loop-i.total-bits) (to_z w128 (of_z w128 (slice_index_or c.args.folds.now c.loop-i.i (pos 0)))) c.args.self.now.few c.all_fit.ensures c.loop-i.invariant.total
-    (to_z-of_z w128 (slice_index_or c.args.folds.now c.loop-i.i (pos 0)) fits ∙ c.requires.each c.loop-i.i (omega (arith, c.loop-i-test.true, c.requires.long))) in
+pub loop-j-preserved : goal.loop-j-preserved
+loop-j-preserved c =
+    let s = step_at c.args.self.now.op c.args.self.now.a.now c.args.b c.args.folds.now c.loop-j.j (to_z w128 c.loop-j.total-bits) c.args.self.now.few c.all_fit.ensures c.requires c.loop-j-test.true (search rules) c.loop-j.invariant.total in
     let result : FitsSigned w128 c.combine-total.result = search rules in
-    let x = to_z w128 c.loop-i.total-bits in
-    let items : c.push_reserved.new.self.items ≡ c.loop-i.starts.items ++ x ∷ [] = search rules in
+    let x = to_z w128 c.loop-j.total-bits in
+    let items : c.push_reserved.new.self.items ≡ c.loop-j.starts.items ++ x ∷ [] = search rules in
     let P : ℕ → ℤ → Type 0 = λ k z. z ≡ fold_of c.args.self.now.op.kind c.args.self.now.op.modulus (before c.args.self.now.a.now c.args.b k) in
     record {
       total = to_z-of_z w128 c.combine-total.result result ∙ c.combine-total.ensures ∙ s.next;
-      count = omega (arith, ap length items, length-append c.loop-i.starts.items (x ∷ []), c.loop-i.invariant.count);
+      count = omega (arith, ap length items, length-append c.loop-j.starts.items (x ∷ []), c.loop-j.invariant.count);
       room = search rules;
-      so_far = λ k lt. subst (λ ys. P k (slice_index_or ys k (pos 0))) (sym items) (more P c.loop-i.starts.items x c.loop-i.i c.loop-i.invariant.count c.loop-i.invariant.so_far c.loop-i.invariant.total k lt);
+      so_far = λ k lt. subst (λ ys. P k (slice_index_or ys k (pos 0))) (sym items) (more P c.loop-j.starts.items x c.loop-j.j c.loop-j.invariant.count c.loop-j.invariant.so_far c.loop-j.invariant.total k lt);
     }

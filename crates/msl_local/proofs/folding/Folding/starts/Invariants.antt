@@ -3,10 +3,10 @@ use Rattle.msl_ops.specs.Meaning.{fold_of}
 use Rattle.msl_local.specs.Folds.{before}
 use Rattle.msl_local.proofs.folding.Folding.starts.Given as goal
 
-abbrev pub invariant-loop-i : goal.invariant-loop-i
-invariant-loop-i l = record {
-  total : l.total ≡ fold_of l.self.op.kind l.self.op.modulus (before l.self.a.now l.b l.i);
-  count : length l.starts.items ≡ l.i;
+abbrev pub invariant-loop-j : goal.invariant-loop-j
+invariant-loop-j l = record {
+  total : l.total ≡ fold_of l.self.op.kind l.self.op.modulus (before l.self.a.now l.b l.j);
+  count : length l.starts.items ≡ l.j;
   room : l.b ≤ vec_capacity l.starts;
-  so_far : (j : _) → j < l.i → slice_index_or l.starts.items j (pos 0) ≡ fold_of l.self.op.kind l.self.op.modulus (before l.self.a.now l.b j);
+  so_far : (k : _) → k < l.j → slice_index_or l.starts.items k (pos 0) ≡ fold_of l.self.op.kind l.self.op.modulus (before l.self.a.now l.b k);
 }
