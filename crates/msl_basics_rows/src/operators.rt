@@ -1,24 +1,10 @@
 //! What lists fold to by each operator, and the operators' names.
 
-ghost use Rattle.std.specs.Prelude.{◌≡◌, ◌^◌, ◌≤◌, length};
-ghost use Rattle.msl_ops.specs.Lawful.{folded};
-
 use msl_base::Fault;
 use msl_base::limits::GREATEST_MODULUS;
-use msl_ops::{Lawful, Op, OpKind, OpTable, op_table};
+use msl_local::fold;
+use msl_ops::{Op, OpKind, OpTable, op_table};
 use std::process::Abort;
-
-// All numbers, from the first to the last.
-fn fold<L: Lawful>(op: &L, xs: &[i64]) -> i128
-    requires { length xs.now ≤ 2 ^ 60 }
-    ensures { result ≡ folded (L.unit op.now) (L.lift op.now) (L.combine op.now) xs.now }
-{
-    let mut total = op.unit();
-    for x in xs {
-        total = op.combine(total, op.lift(*x));
-    }
-    total
-}
 
 // An operator, lists, and what each folds to, as a stage hands it out: None where it overflows.
 type Folds = &'static [(&'static [i64], Option<i64>)];

@@ -75,8 +75,9 @@ impl Folding<'_> {
     }
 }
 
-// All numbers, from the first to the last.
-fn fold<L: Lawful>(op: &L, xs: &[i64]) -> i128
+/// What numbers combine to by an operator, from the first to the last, beginning with the unit. It has 128 bits: no
+/// fold of so few numbers leaves them.
+pub fn fold<L: Lawful>(op: &L, xs: &[i64]) -> i128
     requires { length xs.now ≤ 2 ^ 60 }
     ensures { result ≡ folded (L.unit op.now) (L.lift op.now) (L.combine op.now) xs.now }
 {

@@ -11,7 +11,7 @@
 //!   (`parts_make_the_whole`).
 //!
 //! A part of elements or of a scan, and `Folding::starts`, may answer instead that memory ran out, of which nothing more is
-//! said. Who works on which part is for the caller to say. No crate takes this one so far.
+//! said. Who works on which part is for the caller to say. No crate but that of the tests takes this one so far.
 #![tactic(auto)]
 
 mod elements;
@@ -24,6 +24,6 @@ mod room;
 mod scanning;
 
 pub use elements::Elements;
-pub use folding::Folding;
+pub use folding::{Folding, fold};
 pub use inputs::Inputs;
 pub use scanning::Scanning;
