@@ -10,31 +10,25 @@ rounds=${1:-9}
 # A record's evaluation begins 3 nodes and 7 in each turn.
 nodes=$((2000 * (3 + 7 * 10000)))
 
-cat >"$work/loop.muesli" <<'SCRIPT'
+script=$work/loop.muesli
+cat >"$script" <<'SCRIPT'
 muesli 1;
 fun f(n) = loop i below 10000, a = n in (a * 31 + i) % 1000003;
 main = atomic f;
 SCRIPT
 awk 'BEGIN { for (i = 0; i < 2000; i++) print i * 7919 }' >"$work/records"
-rustc -O -o "$work/plain" "$top/bench/eval.rs"
+compile eval
 
 # The first call builds the program where it has to.
-"$top/bin/muesli" seq "$work/loop.muesli" <"$work/records" >"$work/ours"
-"$work/plain" <"$work/records" >"$work/theirs"
-cmp "$work/ours" "$work/theirs"
+"$top/bin/muesli" check "$script" >"$work/checked"
 
-# The nanoseconds for a node that one run takes.
+# The nanoseconds for a node, of the seconds of a run.
 nanoseconds() {
-    local began=$EPOCHREALTIME
-    "$@" <"$work/records" >/dev/null
-    local ended=$EPOCHREALTIME
-    awk "BEGIN { printf \"%.3f\n\", ($ended - $began) * 1e9 / $nodes }"
+    awk "BEGIN { printf \"%.2f\", $1 * 1e9 / $nodes }"
 }
 
-for _ in $(seq "$rounds"); do
-    nanoseconds "$program" seq "$work/loop.muesli" >>"$work/times.ours"
-    nanoseconds "$work/plain" >>"$work/times.theirs"
-done
-ours=$(sort -n "$work/times.ours" | head -n 1)
-theirs=$(sort -n "$work/times.theirs" | head -n 1)
-echo "a node: muesli $ours ns, plain $theirs ns, ratio $(awk "BEGIN { printf \"%.2f\", $ours / $theirs }")"
+alike "$work/records" muesli eval
+run_in_turn "$work/records" muesli eval
+ours=$(least "$work/times.muesli")
+theirs=$(least "$work/times.eval")
+echo "a node: muesli $(nanoseconds "$ours") ns, plain $(nanoseconds "$theirs") ns, ratio $(ratio "$ours" "$theirs")"

@@ -1,26 +1,32 @@
-//! What members of a group exchange: boxes of records, and what is made of them.
+//! What members of a group exchange, and how they work on what they hold.
 //!
 //! - `Boxes` is an n by n grid of records. `put` replaces a box and `take` empties it, and no other box changes
 //!   (`Boxes::put`, `Boxes::take`).
 //! - A `Fabric` exchanges boxes: box (i, j) of the answer is box (j, i) of what goes out, for all i and j
-//!   (`Fabric::exchange`). `Moved` does it in place, on one thread, and moves no numbers.
+//!   (`Fabric::exchange`). It also works on lists in parts: a function at each place (`Fabric::outcomes`), a fold
+//!   (`Fabric::fold`), a scan (`Fabric::scan`). Each promises the operation on whole lists, and the fault of the least
+//!   place, so that no caller sees how many worked, nor on what.
+//! - `Moved` exchanges in place and works in turn, on one thread. `Joined` exchanges in place and works side by side, by at
+//!   most as many threads as it is given, where there is enough to do; it always returns, and where no thread can be had,
+//!   the work is done on the caller's.
 //! - Over any fabric `broadcast` puts a record at each member (`each`), `scatter` puts part i at member i (`parts`), and
 //!   `gather` holds the parts in the order of the members (`parts`), each as an equation of whole lists. `all_to_all` is
 //!   the exchange.
-//! - `Grids` says what boxes are to contracts and what an exchange makes of them.
 //! - `laws`: two exchanges of the same boxes give the same; an exchange leads back; a row of the answer is a column of
-//!   what went out. Worked examples.
+//!   what went out. Worked examples. `Grids` says what boxes are to contracts.
 //!
-//! A call at a place leaves its stage and its group. What fails answers `NoMemory`; that memory was short isn't said, nor
-//! how records travel. No crate but that of the tests takes this one so far.
+//! A call at a place leaves its stage and its group. What fails otherwise answers that memory ran out; that it was short
+//! isn't said, nor how records travel.
 #![tactic(auto)]
 
 mod boxes;
 mod collectives;
 mod fabric;
+mod joined;
 pub mod laws;
 mod lines;
 
 pub use boxes::Boxes;
 pub use collectives::{all_to_all, broadcast, gather, scatter};
 pub use fabric::{Fabric, Moved, Place};
+pub use joined::Joined;

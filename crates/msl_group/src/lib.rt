@@ -12,7 +12,6 @@
 //!
 //! A `Group` isn't `Drop`: one that is let go doesn't compile, and `spend` is its only end. Nothing is said of what
 //! becomes of a member then, nor of two groups that `whole` made apart. No call takes memory.
-//! `msl_fabric` takes groups; the program uses none so far.
 #![tactic(auto)]
 
 mod group;

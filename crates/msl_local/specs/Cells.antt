@@ -1,10 +1,11 @@
 -- What a function in use gives, place by place and as a whole.
 use Rattle.std.specs.Prelude.{ℕ, ℤ, List, Result}
 use Rattle.msl_base.specs.declared.fault.Fault.{Fault}
-use Rattle.msl_lists.specs.Whole.{Function, at_stage, function_of, map_all, map_index, map_cells, zip_all, zip_index, zip_cells}
+use Rattle.msl_lists.specs.Whole.{Function, at_stage, function_of, map_all, map_index, zip_all, zip_index}
 use Rattle.msl_local.specs.declared.elements.Elements.{Elements}
 use Rattle.msl_local.specs.declared.inputs.Inputs.{Inputs}
-use Rattle.msl_local.specs.declared.inputs.Inputs.TheVariants.{Map, MapIndex, MapCells, Zip, ZipIndex, ZipCells}
+use Rattle.msl_local.specs.declared.inputs.Inputs.TheVariants.{Map, MapIndex, Zip, ZipIndex}
+use Rattle.msl_local.specs.Parts.{flat}
 use Rattle.msl_local.specs.Places.{taken}
 
 -- the outcome at place i
@@ -13,9 +14,7 @@ cells w i = at_stage w.stage (function_of w.u (taken w.inputs i))
 
 -- the operation on whole lists
 abbrev pub whole : Function → ℕ → Inputs → Result (List ℤ) Fault
-whole u stage (Map a) = map_all u stage a.now
-whole u stage (MapIndex a) = map_index u stage a.now
-whole u stage (MapCells cols a) = map_cells u stage cols a.now
-whole u stage (Zip a c) = zip_all u stage a.now c.now
-whole u stage (ZipIndex a c) = zip_index u stage a.now c.now
-whole u stage (ZipCells cols a c) = zip_cells u stage cols a.now c.now
+whole u stage (Map a) = map_all u stage (flat a.now)
+whole u stage (MapIndex a) = map_index u stage (flat a.now)
+whole u stage (Zip a c) = zip_all u stage (flat a.now) (flat c.now)
+whole u stage (ZipIndex a c) = zip_index u stage (flat a.now) (flat c.now)

@@ -1,4 +1,5 @@
-pub mod Places
 pub mod Parts
+pub mod Outcomes
+pub mod Places
 pub mod Cells
 pub mod Folds

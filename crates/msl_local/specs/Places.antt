@@ -1,49 +1,45 @@
 -- What a function takes, place by place.
-use Rattle.std.specs.Prelude.{◌≡◌, ℕ, ◌+◌, ◌/◌, ◌%◌, ◌^◌, ◌<◌, ◌≤◌, ℤ, pos, List, [], ◌∷◌, length}
+use Rattle.std.specs.Prelude.{◌≡◌, ℕ, ◌+◌, ◌^◌, ◌≤◌, ℤ, pos, List, [], ◌∷◌, length}
+use Rattle.std.specs.Global.{Vec}
 use Rattle.msl_fun.specs.declared.muscle.Use.{Use}
 use Rattle.msl_fun.specs.Meaning.{params_of, results_of}
 use Rattle.msl_lists.specs.Whole.{at}
 use Rattle.msl_local.specs.declared.inputs.Inputs.{Inputs}
-use Rattle.msl_local.specs.declared.inputs.Inputs.TheVariants.{Map, MapIndex, MapCells, Zip, ZipIndex, ZipCells}
+use Rattle.msl_local.specs.declared.inputs.Inputs.TheVariants.{Map, MapIndex, Zip, ZipIndex}
+use Rattle.msl_local.specs.Parts.{flat, lengths}
 
--- how many there are
+-- the parts in which the places lie, and those of the second list; where there is none, the same
+abbrev pub parts_of : Inputs → List (Vec ℤ)
+parts_of (Map a) = a.now
+parts_of (MapIndex a) = a.now
+parts_of (Zip a c) = a.now
+parts_of (ZipIndex a c) = a.now
+
+abbrev pub others : Inputs → List (Vec ℤ)
+others (Map a) = a.now
+others (MapIndex a) = a.now
+others (Zip a c) = c.now
+others (ZipIndex a c) = c.now
+
+-- how many places there are
 abbrev pub places : Inputs → ℕ
-places (Map a) = length a.now
-places (MapIndex a) = length a.now
-places (MapCells cols a) = length a.now
-places (Zip a c) = length a.now
-places (ZipIndex a c) = length a.now
-places (ZipCells cols a c) = length a.now
+places inputs = length (flat (parts_of inputs))
 
 -- the numbers that the function takes at place i
 abbrev pub taken : Inputs → ℕ → List ℤ
-taken (Map a) i = at a.now i ∷ []
-taken (MapIndex a) i = pos i ∷ at a.now i ∷ []
-taken (MapCells cols a) i = pos (i / cols) ∷ pos (i % cols) ∷ at a.now i ∷ []
-taken (Zip a c) i = at a.now i ∷ at c.now i ∷ []
-taken (ZipIndex a c) i = pos i ∷ at a.now i ∷ at c.now i ∷ []
-taken (ZipCells cols a c) i = pos (i / cols) ∷ pos (i % cols) ∷ at a.now i ∷ at c.now i ∷ []
+taken (Map a) i = at (flat a.now) i ∷ []
+taken (MapIndex a) i = pos i ∷ at (flat a.now) i ∷ []
+taken (Zip a c) i = at (flat a.now) i ∷ at (flat c.now) i ∷ []
+taken (ZipIndex a c) i = pos i ∷ at (flat a.now) i ∷ at (flat c.now) i ∷ []
 
--- how many elements the second list has; where there is none, as many as the first
-abbrev pub others : Inputs → ℕ
-others (Map a) = length a.now
-others (MapIndex a) = length a.now
-others (MapCells cols a) = length a.now
-others (Zip a c) = length c.now
-others (ZipIndex a c) = length c.now
-others (ZipCells cols a c) = length c.now
-
--- how many columns a matrix has; a list is one
-abbrev pub columns : Inputs → ℕ
-columns (MapCells cols a) = cols
-columns (ZipCells cols a c) = cols
-columns _ = 1
-
--- The function takes what there is at each place, behind its given arguments, and gives one number. Two lists are of one
--- length, a matrix has columns, and no list has more than 2 ^ 60 elements.
-pub record Suits (u : Use) (inputs : Inputs) : Type 0 where
-  pub takes : length u.extra + length (taken inputs 0) ≡ params_of u.f.funs.now u.f.at
+-- a function in use takes so many numbers behind those that it is given, and gives one
+pub record Takes (u : Use) (n : ℕ) : Type 0 where
+  pub takes : length u.extra + n ≡ params_of u.f.funs.now u.f.at
   pub gives : results_of u.f.funs.now u.f.at ≡ 1
-  pub alike : others inputs ≡ places inputs
-  pub wide : 0 < columns inputs
+
+-- The function takes what there is at each place. Two lists lie in parts of the same lengths, and none has more than
+-- 2 ^ 60 elements.
+pub record Suits (u : Use) (inputs : Inputs) : Type 0 where
+  pub fits : Takes u (length (taken inputs 0))
+  pub alike : lengths (others inputs) ≡ lengths (parts_of inputs)
   pub few : places inputs ≤ 2 ^ 60

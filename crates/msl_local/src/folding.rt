@@ -1,77 +1,114 @@
-ghost use Rattle.std.specs.Prelude.{◌≡◌, ◌≤◌, ◌^◌, length};
+ghost use Rattle.std.specs.Prelude.{◌≡◌, ◌≤◌, ◌^◌, All, FitsSigned, length};
+ghost use Rattle.std.specs.Int.{w64};
+ghost use Rattle.msl_local.specs.Parts.{flat};
 ghost use Rattle.msl_ops.specs.Lawful.{folded};
 
-use crate::ends::ends;
-use crate::numbers::all_fit;
-use crate::room::room;
-use msl_base::{Fault, Halt};
+use crate::hands::held_by;
+use crate::parts::all_fit;
+use crate::room;
+use msl_base::Halt;
 use msl_ops::{Lawful, Op};
 use std::alloc::Global;
 
-/// Numbers that are combined by an operator from the first to the last.
+/// Numbers in parts, one for each member, that are combined by an operator from the first to the last.
 #[derive(Clone, Copy)]
 pub struct Folding<'a> {
     pub op: Op,
-    pub a: &'a [i64],
-    pub ghost few: { length a.now ≤ 2 ^ 60 },
+    pub stage: u32,
+    pub parts: &'a [Vec<i64>],
+    pub ghost few: { length (flat parts.now) ≤ 2 ^ 60 },
+    pub ghost fit: { All (FitsSigned w64) (flat parts.now) },
 }
 
-impl Folding<'_> {
-    ghost use Rattle.std.specs.Prelude.{◌<◌, IfOk, IfErr};
+impl<'a> Folding<'a> {
+    ghost use Rattle.std.specs.Prelude.{◌+◌, ◌<◌, IfOk, IfErr};
     ghost use Rattle.msl_base.specs.declared.answer.Halt.TheVariants.{NoMemory};
     ghost use Rattle.msl_base.specs.declared.limits.TheConstants.{MOST_BLOCKS};
-    ghost use Rattle.msl_local.specs.Folds.{between, elements_of, AreFolds, AreStarts};
-    ghost use Rattle.msl_ops.specs.Meaning.{fold_of};
+    ghost use Rattle.msl_ops.specs.Meaning.{fold_of, settle};
     ghost use Rattle.msl_lists.specs.Whole.{fold_all};
+    ghost use Rattle.msl_local.specs.Outcomes.{ComesTo};
+    ghost use Rattle.msl_local.specs.Parts.{between};
+    ghost use Rattle.msl_local.specs.Folds.{held_by, AreFolds, AreStarts};
 
-    /// What the numbers from `from` up to `to` combine to, beginning with the unit.
-    pub fn part(&self, from: usize, to: usize) -> i128
-        requires order { from ≤ to }
-        requires within { to ≤ length self.now.a.now }
-        ensures { result ≡ fold_of self.now.op.kind self.now.op.modulus (between self.now.a.now from to) }
+    /// These numbers by this operator.
+    pub fn new(op: Op, stage: u32, parts: &'a [Vec<i64>]) -> Folding<'a>
+        requires { length (flat parts.now) ≤ 2 ^ 60 }
+        ensures op { result.op ≡ op }
+        ensures stage { result.stage ≡ stage }
+        ensures parts { result.parts ≡ parts.entry }
     {
-        let mine = &self.a[from..to];
-        fold(&self.op, mine)
+        all_fit(parts);
+        Folding { op, stage, parts }
     }
 
-    /// The part at the places of block `j` of `b`.
-    pub fn block(&self, b: usize, j: usize) -> i128
-        requires few { b ≤ MOST_BLOCKS }
-        requires within { j < b }
-        ensures { result ≡ fold_of self.now.op.kind self.now.op.modulus (elements_of self.now.a.now b j) }
+    /// What all numbers combine to, settled.
+    pub fn all(&self) -> Result<i64, Halt>
+        ensures { ComesTo (fold_all self.now.op self.now.stage (flat self.now.parts.now)) result }
     {
-        let (from, to) = ends(self.a.len(), b, j);
-        self.part(from, to)
+        self.settled(self.between(0, self.parts.len()))
     }
 
-    /// What all numbers combine to, settled, by the folds of all `b` blocks.
-    pub fn whole(&self, stage: u32, b: usize, folds: &[i128]) -> Result<i64, Fault>
-        requires some { 1 ≤ b }
-        requires folds { AreFolds self.now.op self.now.a.now b folds.now }
-        ensures { result ≡ fold_all self.now.op stage self.now.a.now }
+    /// What the numbers combine to that one of so many hands has, beginning with the unit. No operator leaves 128 bits.
+    pub fn hand(&self, hands: usize, h: usize) -> i128
+        requires few { hands ≤ MOST_BLOCKS }
+        requires within { h < hands }
+        ensures { result ≡ fold_of self.now.op.kind self.now.op.modulus (flat (held_by self.now.parts.now hands h)) }
     {
-        all_fit(self.a);
+        let (from, to) = held_by(self.parts.len(), hands, h);
+        self.between(from, to)
+    }
+
+    /// What all numbers combine to, settled, by what those of each hand do.
+    pub fn of_hands(&self, hands: usize, folds: &[i128]) -> Result<i64, Halt>
+        requires some { 1 ≤ hands }
+        requires folds { AreFolds self.now.op self.now.parts.now hands folds.now }
+        ensures { ComesTo (fold_all self.now.op self.now.stage (flat self.now.parts.now)) result }
+    {
         let mut total = self.op.unit();
-        for j in 0..b {
-            total = self.op.combine(total, folds[j]);
+        for h in 0..hands {
+            total = self.op.combine(total, folds[h]);
         }
-        self.op.settle(total, stage)
+        self.settled(total)
     }
 
-    /// What each of `b` blocks begins to scan with, by the folds of all: the fold of what stands before it.
-    pub fn starts(&self, alloc: Global, b: usize, folds: &[i128]) -> Result<Vec<i128>, Halt>
-        requires { AreFolds self.now.op self.now.a.now b folds.now }
-        ensures starts { IfOk result (λ v. AreStarts self.now.op self.now.a.now b v.items) }
+    /// What each hand begins to scan with, by the folds of all: the fold of what stands before it.
+    pub fn starts(&self, alloc: Global, hands: usize, folds: &[i128]) -> Result<Vec<i128>, Halt>
+        requires { AreFolds self.now.op self.now.parts.now hands folds.now }
+        ensures starts { IfOk result (λ v. AreStarts self.now.op self.now.parts.now hands v.items) }
         ensures err { IfErr result (λ h. h ≡ NoMemory) }
     {
-        all_fit(self.a);
-        let mut starts = room(alloc, b)?;
+        let mut starts = room(alloc, hands)?;
         let mut total = self.op.unit();
-        for j in 0..b {
+        for h in 0..hands {
             starts.push_reserved(total);
-            total = self.op.combine(total, folds[j]);
+            total = self.op.combine(total, folds[h]);
         }
         Ok(starts)
+    }
+
+    // What the numbers of the parts from `from` up to `to` combine to, beginning with the unit.
+    fn between(&self, from: usize, to: usize) -> i128
+        requires order { from ≤ to }
+        requires within { to ≤ length self.now.parts.now }
+        ensures { result ≡ fold_of self.now.op.kind self.now.op.modulus (flat (between self.now.parts.now from to)) }
+    {
+        let mut total = self.op.unit();
+        for m in from..to {
+            total = self
+                .op
+                .combine(total, fold(&self.op, self.parts[m].as_slice()));
+        }
+        total
+    }
+
+    // What is handed out of a fold.
+    fn settled(&self, total: i128) -> Result<i64, Halt>
+        ensures { ComesTo (settle self.now.stage total) result }
+    {
+        match self.op.settle(total, self.stage) {
+            Ok(z) => Ok(z),
+            Err(e) => Err(Halt::Fault(e)),
+        }
     }
 }
 

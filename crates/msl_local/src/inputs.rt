@@ -1,32 +1,27 @@
-/// What a function takes at each place, behind the arguments that it is given before. A place of a matrix, which lies
-/// row by row, has a row and a column.
+/// What a function takes at each place, behind the arguments that it is given before. The places lie in parts, one for
+/// each member, and the two lists of a zip in parts of the same lengths.
 #[derive(Clone, Copy)]
-pub enum Inputs<'a> {
+pub enum Inputs<'a, 'c> {
     /// The element.
-    Map(&'a [i64]),
+    Map(&'a [Vec<i64>]),
     /// The place and the element.
-    MapIndex(&'a [i64]),
-    /// In a matrix of so many columns the row, the column and the element.
-    MapCells(usize, &'a [i64]),
+    MapIndex(&'a [Vec<i64>]),
     /// The elements of both.
-    Zip(&'a [i64], &'a [i64]),
+    Zip(&'a [Vec<i64>], &'c [Vec<i64>]),
     /// The place and the elements of both.
-    ZipIndex(&'a [i64], &'a [i64]),
-    /// In matrices of so many columns the row, the column and the elements of both.
-    ZipCells(usize, &'a [i64], &'a [i64]),
+    ZipIndex(&'a [Vec<i64>], &'c [Vec<i64>]),
 }
 
-impl Inputs<'_> {
+impl Inputs<'_, '_> {
     ghost use Rattle.std.specs.Prelude.{◌≡◌};
-    ghost use Rattle.msl_local.specs.Places.{places};
+    ghost use Rattle.msl_local.specs.Places.{parts_of};
 
-    /// How many places there are.
-    pub fn places(&self) -> usize
-        ensures { result ≡ places self.now }
+    /// The parts in which the places lie.
+    pub fn parts(&self) -> &[Vec<i64>]
+        ensures { result.now ≡ parts_of self.now }
     {
         match *self {
-            Inputs::Map(a) | Inputs::MapIndex(a) | Inputs::MapCells(_, a) => a.len(),
-            Inputs::Zip(a, _) | Inputs::ZipIndex(a, _) | Inputs::ZipCells(_, a, _) => a.len(),
+            Inputs::Map(a) | Inputs::MapIndex(a) | Inputs::Zip(a, _) | Inputs::ZipIndex(a, _) => a,
         }
     }
 }

@@ -1,29 +1,32 @@
-//! What a member of a group does with its elements, place after place, as types of work.
+//! What a member of a group does with its elements, place after place, as types of work over lists that lie in parts, one
+//! part for each member.
 //!
-//! - `Elements` is a function in use at each place of one list or of two, by what it takes there (`Inputs`). Its part
-//!   from one place up to another comes to the outcomes there in their order, or to the fault of the least of them.
-//! - `Folding` is an operator over a list. Its part is what the numbers there combine to, beginning with the unit, in
-//!   128 bits, of which none overflows. Of the folds of all blocks `Folding::whole` makes that of the list, settled, and
-//!   `Folding::starts` the fold of what stands before each block.
-//! - `Scanning` goes on from such a start. Its part comes to each result on the way, settled, or to the first fault.
-//! - `laws`: the outcomes at all places are those of the map or zip of whole lists (`elements`); parts side by side, by
-//!   any cut or by blocks, make the whole, and the fault of the whole is that of the least part that has one
-//!   (`parts_make_the_whole`).
+//! - `Elements` is a function in use at each place of one list or of two, by what it takes there (`Inputs`). `Elements::all`
+//!   comes to the map or the zip of the whole lists, in parts of the same lengths, or to the fault of the least place.
+//!   `Elements::hand` comes to the outcomes at the parts that one of several hands has.
+//! - `Folding` is an operator over a list. `Folding::all` comes to the fold of the list, settled, and `Folding::scan_all` to
+//!   its scan. `Folding::hand` is the fold of what a hand has, in 128 bits, of which none overflows; of all of them
+//!   `Folding::of_hands` makes the fold of the list, and `Folding::starts` that of what stands before each hand, from which
+//!   `Folding::scan_hand` goes on.
+//! - `joined` puts the parts of all hands together. That they make the whole, and that the fault of the whole is that of the
+//!   least hand that has one, are lemmas (`Together`), which `msl_fabric` uses.
+//! - `Parts` says what lists in parts are, `Outcomes` what an answer comes to, `Folds` what each hand has and gives.
 //!
-//! A part of elements or of a scan, and `Folding::starts`, may answer instead that memory ran out, of which nothing more is
-//! said. Who works on which part is for the caller to say. No crate but that of the tests takes this one so far.
+//! What makes a list may answer instead that memory ran out, of which nothing more is said. Who works on which part is for
+//! the caller to say.
 #![tactic(auto)]
 
 mod elements;
-mod ends;
 mod folding;
+mod hands;
 mod inputs;
-pub mod laws;
-mod numbers;
-mod room;
+mod parts;
+mod reserve;
 mod scanning;
 
-pub use elements::Elements;
+pub use elements::{Elements, of_stage};
 pub use folding::{Folding, fold};
+pub use hands::joined;
 pub use inputs::Inputs;
-pub use scanning::Scanning;
+pub use parts::start;
+pub use reserve::room;

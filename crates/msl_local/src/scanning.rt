@@ -1,63 +1,83 @@
-ghost use Rattle.std.specs.Prelude.{◌≡◌, ◌≤◌, ◌^◌, length};
-
-use crate::ends::ends;
-use crate::numbers::all_fit;
-use crate::room::room;
+use crate::hands::held_by;
+use crate::{Folding, room};
 use msl_base::Halt;
-use msl_ops::{Lawful, Op};
+use msl_ops::Lawful;
 use std::alloc::Global;
 
-/// Numbers that are combined by an operator from the first to the last, with each result on the way.
-#[derive(Clone, Copy)]
-pub struct Scanning<'a> {
-    pub op: Op,
-    pub stage: u32,
-    pub a: &'a [i64],
-    pub ghost few: { length a.now ≤ 2 ^ 60 },
-}
-
-impl Scanning<'_> {
-    ghost use Rattle.std.specs.Prelude.{◌-◌, ◌<◌, take};
+impl Folding<'_> {
+    ghost use Rattle.std.specs.Prelude.{◌≡◌, ◌+◌, ◌-◌, ◌<◌, ◌≤◌, OnOk, length, slice_index_or, take};
     ghost use Rattle.msl_base.specs.declared.limits.TheConstants.{MOST_BLOCKS};
+    ghost use Rattle.msl_lists.specs.Whole.{scan_all};
     ghost use Rattle.msl_ops.specs.Meaning.{fold_of};
-    ghost use Rattle.msl_local.specs.Parts.{part, block, Comes};
-    ghost use Rattle.msl_local.specs.Folds.{scanned, AreStarts};
+    ghost use Rattle.msl_local.specs.Outcomes.{part, Comes, ComesLike};
+    ghost use Rattle.msl_local.specs.Parts.{between, flat, lengths, start};
+    ghost use Rattle.msl_local.specs.Folds.{scanned, AreStarts, HandComes};
 
-    /// The results at the places from `from` up to `to`, settled, or the first fault of them. It goes on from what the
-    /// numbers before these places combine to.
-    pub fn part(&self, alloc: Global, start: i128, from: usize, to: usize) -> Result<Vec<i64>, Halt>
-        requires order { from ≤ to }
-        requires within { to ≤ length self.now.a.now }
-        requires start { start ≡ fold_of self.now.op.kind self.now.op.modulus (take from self.now.a.now) }
-        ensures { Comes (part (scanned self.now.op self.now.stage self.now.a.now) from (to - from)) result }
+    /// What the numbers up to each place combine to, settled, in parts of the same lengths, or the fault of the least
+    /// place.
+    pub fn scan_all(&self, alloc: Global) -> Result<Vec<Vec<i64>>, Halt>
+        ensures { ComesLike self.now.parts.now (scan_all self.now.op self.now.stage (flat self.now.parts.now)) result }
     {
-        all_fit(self.a);
+        self.scan_between(alloc, self.op.unit(), 0, self.parts.len())
+    }
+
+    /// The same at the parts that one of so many hands has, by what each begins with.
+    pub fn scan_hand(
+        &self,
+        alloc: Global,
+        starts: &[i128],
+        hands: usize,
+        h: usize,
+    ) -> Result<Vec<Vec<i64>>, Halt>
+        requires few { hands ≤ MOST_BLOCKS }
+        requires within { h < hands }
+        requires starts { AreStarts self.now.op self.now.parts.now hands starts.now }
+        ensures { HandComes self.now.parts.now (scanned self.now.op self.now.stage (flat self.now.parts.now)) hands h result }
+    {
+        let (from, to) = held_by(self.parts.len(), hands, h);
+        self.scan_between(alloc, starts[h], from, to)
+    }
+
+    // The same at the parts from `from` up to `to`, by what stands before them.
+    fn scan_between(
+        &self,
+        alloc: Global,
+        before: i128,
+        from: usize,
+        to: usize,
+    ) -> Result<Vec<Vec<i64>>, Halt>
+        requires order { from ≤ to }
+        requires within { to ≤ length self.now.parts.now }
+        requires before { before ≡ fold_of self.now.op.kind self.now.op.modulus (flat (take from self.now.parts.now)) }
+        ensures { ComesLike (between self.now.parts.now from to) (part (scanned self.now.op self.now.stage (flat self.now.parts.now)) (start self.now.parts.now from) (start self.now.parts.now to - start self.now.parts.now from)) result }
+    {
         let mut out = room(alloc, to - from)?;
-        let mut total = start;
-        for k in from..to {
-            total = self.op.combine(total, self.op.lift(self.a[k]));
-            match self.op.settle(total, self.stage) {
-                Ok(y) => out.push_reserved(y),
-                Err(e) => return Err(Halt::Fault(e)),
+        let mut total = before;
+        for m in from..to {
+            match self.scan_part(alloc, m, &mut total) {
+                Ok(part) => out.push_reserved(part),
+                Err(h) => return Err(h),
             }
         }
         Ok(out)
     }
 
-    /// The part at the places of block `j` of `b`, by what each block begins with.
-    pub fn block(
-        &self,
-        alloc: Global,
-        starts: &[i128],
-        b: usize,
-        j: usize,
-    ) -> Result<Vec<i64>, Halt>
-        requires few { b ≤ MOST_BLOCKS }
-        requires within { j < b }
-        requires starts { AreStarts self.now.op self.now.a.now b starts.now }
-        ensures { Comes (block (scanned self.now.op self.now.stage self.now.a.now) (length self.now.a.now) b j) result }
+    // The same at the places of a part. The total is that of all before it, and then with it.
+    fn scan_part(&self, alloc: Global, m: usize, total: &mut i128) -> Result<Vec<i64>, Halt>
+        requires within { m < length self.now.parts.now }
+        requires total { total.old ≡ fold_of self.now.op.kind self.now.op.modulus (flat (take m self.now.parts.now)) }
+        ensures part { Comes (part (scanned self.now.op self.now.stage (flat self.now.parts.now)) (start self.now.parts.now m) (slice_index_or (lengths self.now.parts.now) m 0)) result }
+        ensures total { OnOk result (total.new ≡ fold_of self.now.op.kind self.now.op.modulus (flat (take (m + 1) self.now.parts.now))) }
     {
-        let (from, to) = ends(self.a.len(), b, j);
-        self.part(alloc, starts[j], from, to)
+        let xs = self.parts[m].as_slice();
+        let mut out = room(alloc, xs.len())?;
+        for k in 0..xs.len() {
+            *total = self.op.combine(*total, self.op.lift(xs[k]));
+            match self.op.settle(*total, self.stage) {
+                Ok(y) => out.push_reserved(y),
+                Err(e) => return Err(Halt::Fault(e)),
+            }
+        }
+        Ok(out)
     }
 }

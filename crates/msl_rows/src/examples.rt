@@ -45,6 +45,19 @@ data deviations {
 main = data deviations on 2;
 ";
 
+const DROPS: &str =
+    "# A data program: how far each number is below the greatest up to it. The members hold the numbers in four blocks.
+muesli 1;
+fun drop(top, x) = top - x;
+data drops {
+  levels = array 4;
+  tops = scan max levels;
+  result = zip drop tops levels;
+  give result;
+}
+main = data drops on 2;
+";
+
 const PAIRS: &str =
     "# A filter: two records of one number become one of two. Its state is whether one is held, and which.
 muesli 1;
@@ -132,6 +145,16 @@ const RUN: &[Row<'static>] = &[
         b"2 1\n-2 -1\n-2 1\n",
         b"muesli: stage 1: division by zero\n",
     ),
+    Row::Done(
+        DEVIATIONS,
+        b"1 2 3 6\n-4 0 4 8\n5 5 5 5\n",
+        b"-8 -4 0 12\n-24 -8 8 24\n0 0 0 0\n",
+    ),
+    Row::Done(
+        DROPS,
+        b"3 1 4 1 5 9 2 6\n-7 -9 -8\n\n5\n",
+        b"0 2 0 3 0 0 7 3\n0 2 1\n\n0\n",
+    ),
 ];
 
 #[test]
@@ -186,6 +209,20 @@ data deviations {
   give result;
 }
 main = data deviations on 2;
+# need 3
+",
+    ),
+    (
+        DROPS,
+        "muesli 1;
+fun drop(top, x) = top - x;
+data drops {
+  levels = array 4;
+  tops = scan max levels;
+  result = zip drop tops levels;
+  give result;
+}
+main = data drops on 2;
 # need 3
 ",
     ),

@@ -6,8 +6,9 @@
 //! - `faults`: each read, write and flush fails in turn, and is told behind the beginning of the results; a failing
 //!   fetch; a message that can't be written; what failed isn't tried again.
 //! - `messages`: the message and the number of each status. `asked`: which files the library was asked for.
-//! - `refusals`, `limits`, `unbuilt`: texts that are no script, scripts at the limits of the language and one above,
-//!   and main stages that aren't `atomic f`.
+//! - `programs`: data programs, their faults, and that neither blocks nor members change what they give.
+//! - `refusals`, `limits`, `unbuilt`: texts that are no script, scripts, lines and records at the limits and one above,
+//!   and main stages that `seq` doesn't run.
 //! - `checks`: what `check` writes, and that it refuses what `seq` refuses.
 #![tactic(auto)]
 
@@ -25,6 +26,8 @@ mod fixture;
 mod limits;
 #[cfg(test)]
 mod messages;
+#[cfg(test)]
+mod programs;
 #[cfg(test)]
 mod refusals;
 #[cfg(test)]

@@ -1,6 +1,7 @@
-//! Scripts at the limits of the language, and one above.
+//! Scripts and records at the limits, and one above.
 
 use crate::fixture::{Case, Row, SEQ, is_refused, meet, meet_row, meet_rows, not_run};
+use crate::programs::SUM;
 use crate::refusals::KNOWN;
 use std::alloc::{AllocError, Global};
 use std::process::Abort;
@@ -231,6 +232,21 @@ fn many_stages(rt: HostRuntime) -> Result<(), Fail> {
     is_refused(&rt, alloc, SEQ, text.as_str(), LONGER_PIPE, "many")?;
     text.push_str(PIPE)?;
     meet_row(&rt, alloc, Row::Unbuilt(text.as_str()))
+}
+
+// How many numbers a record may have.
+const MOST_NUMBERS: usize = 1_048_576;
+
+const WIDE: &[u8] = b"muesli: line 1: too many numbers\n";
+
+#[test]
+fn long_records(rt: HostRuntime) -> Result<(), Fail> {
+    let alloc = rt.alloc();
+    let mut zeros = String::from_str(alloc, "0")?;
+    push_times(&mut zeros, " 0", MOST_NUMBERS - 1)?;
+    meet_row(&rt, alloc, Row::Done(SUM, zeros.as_bytes(), b"0\n"))?;
+    zeros.push_str(" 0")?;
+    meet_row(&rt, alloc, Row::Faults(SUM, zeros.as_bytes(), b"", WIDE))
 }
 
 // How many bytes a script may have, comments included.

@@ -44,7 +44,11 @@ const TEXTS: &[Row<'static>] = &[
         b"3\n",
         b"3\n",
     ),
-    Row::Unbuilt("muesli 1;\ndata d { a = array 1; give a; }\nmain = data d on 1;\n"),
+    Row::Done(
+        "muesli 1;\ndata d { a = array 1; give a; }\nmain = data d on 1;\n",
+        b"3\n",
+        b"3\n",
+    ),
     // Text behind the end.
     Row::Refused("muesli 1;\nfun f(x) = x;\nmain = atomic f;\n^;", "expected"),
     Row::Refused(

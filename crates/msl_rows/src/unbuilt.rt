@@ -1,4 +1,4 @@
-//! Scripts whose main stage isn't `atomic f`.
+//! Scripts whose main stage `seq` doesn't run: all but functions and data programs of built steps.
 
 use crate::fixture::{Row, meet_row};
 use crate::refusals::KNOWN;
@@ -15,14 +15,6 @@ const PICK: &str =
 // Definitions and the main stage.
 const WORKED: &[(&str, &str)] = &[
     (SQUARE, "farm 3 { atomic sq }"),
-    (
-        "data t { a = array 3; b = scan sum a; give b; }\n",
-        "data t on 2",
-    ),
-    (
-        "data t { a = array 2; b = fold sum a; give b; }\n",
-        "data t on 1",
-    ),
     (
         "fun nxt(i) = (i + 1) % 3;\nfun zero(i) = 0;\ndata t { a = array 3; b = permutePartition nxt a; give b; }\n",
         "data t on 2",
@@ -53,6 +45,10 @@ const WORKED: &[(&str, &str)] = &[
         "pipe { atomic sq; atomic sq; atomic sq; atomic sq; atomic sq }",
     ),
     (PICK, "farm 2 { bnb pick on 3 }"),
+    (
+        "data t { a = array 3; b = scan sum a; give b; }\n",
+        "pipe { data t on 2 }",
+    ),
 ];
 
 // Definitions behind a head, and a main stage that isn't built.
@@ -71,6 +67,29 @@ fn is_unbuilt(
 fn worked_scripts(rt: HostRuntime) -> Result<(), Fail> {
     for (items, main) in WORKED {
         is_unbuilt(&rt, rt.alloc(), "muesli 1;\n", items, main)?;
+    }
+    Ok(())
+}
+
+// Lines of a data program that make a matrix or move numbers, each of them given or not.
+const STEPS: &[&str] = &[
+    "m = matrix 1 1 grid 1 1 at 0; give m;",
+    "m = matrix 1 1 grid 1 1 at 0; give a;",
+    "b = permutePartition f a; give b;",
+    "b = permute f a; give b;",
+    "b = permute f a; give a;",
+    "b = broadcastPartition 0 a; give b;",
+    "m = matrix 1 1 grid 1 1 at 0; n = transpose m; s = fold sum n; give s;",
+    "m = matrix 1 1 grid 1 1 at 0; n = rotateRows f m; give a;",
+    "m = matrix 1 1 grid 1 1 at 0; n = rotateCols f m; give a;",
+];
+
+#[test]
+fn steps_of_programs(rt: HostRuntime) -> Result<(), Fail> {
+    let alloc = rt.alloc();
+    for lines in STEPS {
+        let items = format!(in alloc; "fun f(x) = x; data d {{ a = array 1; {lines} }} ")?;
+        is_unbuilt(&rt, alloc, "muesli 1; ", items.as_str(), "data d on 1")?;
     }
     Ok(())
 }

@@ -137,6 +137,15 @@ module _ (one : Record → Outcome) (a b c h k l : Option (List ℕ)) (old new :
       ))
   told_fault (Some s) rec fault result stands takes faults kept either = absurd takes
 
+  -- memory ran out at a record
+  pub told_starved : (stopped : Option Stop) (rec : Rec) → Stands stopped → Takes stopped b c old new (Ok rec) → Keeps k l → LeftBehind one a c h l Memory
+  told_starved None rec stands takes kept =
+      told_chain a b c stands takes.0 (λ x y z s r. (
+        gives_left one x (old.rest ++ y) new.rest z s.0 (old.read + 1) new.stopped rec.numbers s.2 r,
+        (s.0, Appends-kept h k l s.0 s.1 kept, goes_memory one x (old.rest ++ y) z s.0 (old.read + 1) s.2),
+      ))
+  told_starved (Some s) rec stands takes kept = absurd takes
+
   -- its result was written in part
   pub told_write_part : (stopped : Option Stop) (rec : Rec) (y : Record) → Stands stopped → Takes stopped b c old new (Ok rec) → one rec.numbers ≡ Ok y → AppendsPart k l (text_of y) → LeftBehind one a c h l Write
   told_write_part None rec y stands takes gives (front, back, split, some, wrote) =

@@ -1,5 +1,5 @@
 -- How a script is come by, how far a run has come, and what one step of it does.
-use Rattle.std.specs.Prelude.{ℕ, ◌≡◌, ◌<◌, ◌≤◌, ◌+◌, ◌⊎◌, List, [], ◌++◌, length, Option, Some, None, Result, Ok, Err, ⊤}
+use Rattle.std.specs.Prelude.{ℕ, ◌≡◌, ◌<◌, ◌≤◌, ◌+◌, ◌⊎◌, List, [], ◌++◌, length, Option, Some, None, Result, Ok, Err, IsTrue, ⊤}
 use Rattle.std.specs.Io.KnownBytes.{Appends, Keeps}
 use Rattle.msl_base.specs.declared.fault.Fault.TheVariants as faults
 use Rattle.msl_base.specs.declared.limits.TheConstants.{MOST_SCRIPT_BYTES}
@@ -16,12 +16,19 @@ use Rattle.msl_io.specs.declared.lines.Line.TheVariants as line
 use Rattle.msl_io.specs.declared.lines.Stop.{Stop}
 use Rattle.msl_io.specs.declared.lines.Stop.TheVariants as stop
 use Rattle.msl_program.specs.Script.{Script}
+use Rattle.msl_program.specs.Calls.{atomic_outcome}
+use Rattle.msl_program.specs.Data.{data_outcome}
+use Rattle.msl_program.specs.ProgramPromise.{ProgramFits}
+use Rattle.msl_data.specs.Built.{is_built}
 use Rattle.msl_grammar.specs.ScriptGrammar.{ReadsTo}
 use Rattle.msl_run.specs.Causes.{Count, Rises, Stays}
 use Rattle.msl_run.specs.declared.status.Status.{Status}
 use Rattle.msl_run.specs.declared.status.Status.TheVariants.{Done, Usage, Library, ScriptLong, Script as Refused, Unbuilt, Stream as Faulted, Read, Write, Memory}
 use Rattle.msl_run.specs.declared.sequence.Step.{Step}
 use Rattle.msl_run.specs.declared.sequence.Step.TheVariants as step
+use Rattle.msl_run.specs.declared.work.Program.{Program}
+use Rattle.msl_run.specs.declared.work.Work.{Work}
+use Rattle.msl_run.specs.declared.work.Work.TheVariants.{Atomic, Data}
 
 -- ---- the script of a file
 
@@ -111,16 +118,34 @@ TakeCause (Err Write) before now = ⊥
 
 -- ---- one record
 
--- what is done of one record: its result was written, it faults, or its result was written in part
+-- a program that fits its functions, of which each step is built
+pub record IsReadyProgram (p : Program) : Type 0 where
+  pub fits : ProgramFits p.funs.now p.prog.now
+  pub built : IsTrue (is_built p.prog.now)
+
+-- work that can be done at any record
+abbrev pub IsReady : Work → Type 0
+IsReady (Atomic f) = ⊤
+IsReady (Data p) = IsReadyProgram p
+
+-- what a record gives
+abbrev pub outcome_of : Work → Record → Outcome
+outcome_of (Atomic f) x = atomic_outcome f.funs.now 1 f.at x
+outcome_of (Data p) x = data_outcome p.funs.now p.prog.now 1 x
+
+-- what is done of one record: its result was written, it faults, its result was written in part, or memory ran out before
+-- it was known
 abbrev pub Stepped : Step → Outcome → Option (List ℕ) → Option (List ℕ) → Type 0
 Stepped step.Written r held now = (ys : Record) × (r ≡ Ok ys) × Appends held now (text_of ys)
 Stepped (step.Faulted f) r held now = (r ≡ Err f) × Keeps held now
 Stepped step.Failed r held now = (ys : Record) × (r ≡ Ok ys) × AppendsPart held now (text_of ys)
+Stepped step.Starved r held now = Keeps held now
 
 abbrev pub StepCause : Step → ℕ → ℕ → Type 0
 StepCause step.Written before now = now ≡ before
 StepCause (step.Faulted f) before now = now ≡ before
 StepCause step.Failed before now = Rose before now
+StepCause step.Starved before now = now ≡ before
 
 -- a flush leaves the status, or gives a fault of writing
 abbrev pub Flushed : Status → Status → ℕ → ℕ → Type 0

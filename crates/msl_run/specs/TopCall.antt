@@ -1,5 +1,5 @@
 -- What the top call says of its words, of the script and of the run.
-use Rattle.std.specs.Prelude.{ℕ, ◌≡◌, ◌≤◌, nat_le, length, ◌⊎◌, ◌==◌, ◌++◌, decimal, not, Bool, if◌then◌else◌, false, List, [], ◌∷◌, codes, Option, Some, None, Result, Ok, Err, MatchBool, ⊤}
+use Rattle.std.specs.Prelude.{ℕ, ◌≡◌, ◌≤◌, nat_le, length, ◌⊎◌, ◌==◌, ◌++◌, decimal, not, Bool, if◌then◌else◌, false, List, [], ◌∷◌, codes, Option, Some, None, Result, Ok, Err, MatchBool, IsTrue, ⊤}
 use Rattle.std.specs.Str.{bytes_eq}
 use Rattle.std.specs.Io.KnownBytes.{Appends}
 use Rattle.msl_io.specs.Fetching.{FileIs}
@@ -12,7 +12,9 @@ use Rattle.msl_program.specs.declared.stage.Stage.{Stage}
 use Rattle.msl_program.specs.declared.stage.Stage.TheVariants.{Atomic, Filter, Data, DivCon, Bnb, Pipe'}
 use Rattle.msl_program.specs.Stages.{farm}
 use Rattle.msl_program.specs.Need.{need}
-use Rattle.msl_program.specs.Runs.{SeqRuns}
+use Rattle.msl_program.specs.Runs.{AtPlace, SeqRuns}
+use Rattle.msl_program.specs.declared.data.DataProg.{DataProg}
+use Rattle.msl_data.specs.Built.{is_built}
 use Rattle.msl_grammar.specs.ScriptGrammar.{ReadsAs, ReadsTo}
 use Rattle.msl_script_print.specs.ScriptText.{script_bits}
 use Rattle.msl_base.specs.declared.limits.TheConstants.{MOST_SCRIPT_BYTES}
@@ -43,19 +45,23 @@ command _ = None
 abbrev pub IsUntouched : Ends → Type 0
 IsUntouched e = (e.left_now ≡ e.left) × (e.held_now ≡ e.held)
 
--- `seq` is built for scripts whose main stage is `atomic`
-abbrev pub IsBuilt : Stage → Type 0
-IsBuilt (Atomic f) = ⊤
-IsBuilt (Filter f) = ⊥
-IsBuilt (Data d members) = ⊥
-IsBuilt (DivCon d members) = ⊥
-IsBuilt (Bnb b members) = ⊥
-IsBuilt (farm workers stage) = ⊥
-IsBuilt (Pipe' _ stages) = ⊥
+-- a stage that `seq` runs: a function, or a data program of which each step is built
+abbrev pub IsBuiltOver : List DataProg → Stage → Type 0
+IsBuiltOver datas (Atomic f) = ⊤
+IsBuiltOver datas (Data i on) = AtPlace datas i (λ p. IsTrue (is_built p))
+IsBuiltOver datas (Filter i) = ⊥
+IsBuiltOver datas (DivCon i on) = ⊥
+IsBuiltOver datas (Bnb i on) = ⊥
+IsBuiltOver datas (farm workers stage) = ⊥
+IsBuiltOver datas (Pipe' _ stages) = ⊥
+
+-- `seq` runs the script
+abbrev pub IsBuilt : Script → Type 0
+IsBuilt s = IsBuiltOver s.datas s.main
 
 -- `seq` over a script: what its run left behind, where it is built
 abbrev pub Runs : Script → Ends → Status → Type 0
-Runs s e status = (IsBuilt s.main × RanTold (SeqRuns s) e status) ⊎ ((IsBuilt s.main → ⊥) × (status ≡ Unbuilt) × IsUntouched e)
+Runs s e status = (IsBuilt s × RanTold (SeqRuns s) e status) ⊎ ((IsBuilt s → ⊥) × (status ≡ Unbuilt) × IsUntouched e)
 
 -- what `check` writes of a script: its canonical text, and how many processes it needs
 abbrev pub check_text : Script → List ℕ
@@ -127,5 +133,5 @@ AsksFor (Some (Check name)) before now = IsAsked name before now
 -- the command is on a file that is told, is not too long and reads as a script; to run it has to be built
 abbrev pub IsRunnable : Option Command → (List ℕ → Option (List ℕ)) → Type 0
 IsRunnable None file = ⊥
-IsRunnable (Some (Seq name)) file = (text : List ℕ) × (s : Script) × (file name ≡ Some text) × (length text ≤ MOST_SCRIPT_BYTES) × ReadsAs text s × IsBuilt s.main
+IsRunnable (Some (Seq name)) file = (text : List ℕ) × (s : Script) × (file name ≡ Some text) × (length text ≤ MOST_SCRIPT_BYTES) × ReadsAs text s × IsBuilt s
 IsRunnable (Some (Check name)) file = (text : List ℕ) × (s : Script) × (file name ≡ Some text) × (length text ≤ MOST_SCRIPT_BYTES) × ReadsAs text s

@@ -22,6 +22,7 @@ mod run;
 mod sequence;
 mod status;
 mod words;
+mod work;
 
 pub use message::tell;
 pub use run::muesli_plain;

@@ -1,20 +1,29 @@
-ghost use Rattle.std.specs.Prelude.{◌≡◌, ◌≤◌, ℕ, List, IfErr, IfOk, Option, length};
-ghost use Rattle.msl_base.specs.declared.limits.TheConstants.{MOST_SCRIPT_BYTES};
+ghost use Rattle.std.specs.Prelude.{◌≡◌, ◌≤◌, ℕ, List, IfErr, IfOk, IsTrue, Option, length};
+ghost use Rattle.msl_base.specs.Streams.{pointwise};
+ghost use Rattle.msl_base.specs.declared.limits.TheConstants.{MOST_MEMBERS, MOST_SCRIPT_BYTES};
+ghost use Rattle.msl_data.specs.Built.{is_built};
 ghost use Rattle.msl_io.specs.Known.{Told};
+ghost use Rattle.msl_program.specs.Data.{data_outcome};
+ghost use Rattle.msl_program.specs.ProgramPromise.{ProgramFits};
 ghost use Rattle.msl_run.specs.Causes.{count, Causes, Rises};
-ghost use Rattle.msl_run.specs.Headline.{ends};
+ghost use Rattle.msl_run.specs.Headline.{ends, RanTold};
 ghost use Rattle.msl_run.specs.Messages.{Tells};
 ghost use Rattle.msl_run.specs.Statuses.{class_of, IsRefusal, IsComplete, IsHandedOn};
 ghost use Rattle.msl_run.specs.Steps.{IsScriptIn, IsScriptOf, Declines};
 ghost use Rattle.msl_run.specs.TopCall.{command, check_text, AsksFor, Checks, IsAsked, IsCheck, IsRunnable, OfCommand, OfFile, Runs, Wrote};
 
 use crate::message::tell;
-use crate::sequence::{flushed, run_atomic};
+use crate::sequence::{flushed, run_records};
 use crate::status::Status;
 use crate::words::{Command, Words, WordsFault, command_of};
+use crate::work::{Program, Work};
 use msl_base::NoMemory;
 use msl_base::limits::MOST_SCRIPT_BYTES;
+use msl_data::is_built;
+use msl_fun::Funs;
+use msl_group::Group;
 use msl_io::{Fetched, Library, Piece, Sink, Source, WriteFault, write_text};
+use msl_program::DataProg;
 use msl_script::{Script, ScriptFault, Stage, need, print_script, read_script};
 use std::alloc::Global;
 use std::thread::Threads;
@@ -26,9 +35,10 @@ use std::thread::Threads;
 ///
 /// `Usage` comes exactly where the words are no command. Of the script's file, `ScriptLong` comes where it has more than
 /// 1,048,576 bytes, else `Script` where it is no script, with the first test that fails and its place, else, at `seq`
-/// alone, `Unbuilt` where its main stage isn't `atomic`: there nothing else comes but `Library` and `Memory`, and none
-/// of the three comes anywhere else. `Library`, `Read` and `Write` come only where the object counted a fault in this
-/// call, and `Memory` where memory ran out, which no clause says. No fault is passed over: a count rises at these alone.
+/// alone, `Unbuilt` where its main stage is neither `atomic` nor a data program of which no line makes a matrix or moves
+/// numbers: there nothing else comes but `Library` and `Memory`, and none of the three comes anywhere else. `Library`,
+/// `Read` and `Write` come only where the object counted a fault in this call, and `Memory` where memory ran out, which no
+/// clause says. No fault is passed over: a count rises at these alone.
 ///
 /// The clause `ran` says what was read and written at each answer. Where the library doesn't tell its files it speaks of
 /// some text, and where the sink doesn't tell its bytes of some that were written. Where the source doesn't tell its
@@ -115,9 +125,47 @@ fn run_script<R: Threads + Sync, S: Source, K: Sink>(
     ensures cause { Causes result (count 0 0) (count (S.faults src.old) (S.faults src.new)) (count (K.faults out.old) (K.faults out.new)) }
 {
     match script.main() {
-        Stage::Atomic(f) => run_atomic(alloc, script.funs().muscle(*f), src, out),
+        Stage::Atomic(f) => {
+            let f = script.funs().muscle(*f);
+            run_records(alloc, Work::Atomic(f), src, out)
+        }
+        Stage::Data(at, members) => {
+            let prog = &script.datas().as_slice()[*at as usize];
+            if !is_built(prog) {
+                return Status::Unbuilt;
+            }
+            run_program(alloc, prog, script.funs(), *members, src, out)
+        }
         _ => Status::Unbuilt,
     }
+}
+
+// Runs a data program over the records of a source, by so many members.
+fn run_program<S: Source, K: Sink>(
+    alloc: Global,
+    prog: &DataProg,
+    funs: &Funs,
+    members: u32,
+    src: &mut S,
+    out: &mut K,
+) -> Status
+    requires fits { ProgramFits funs.now prog.now }
+    requires built { IsTrue (is_built prog.now) }
+    requires some { 1 ≤ members }
+    requires few { members ≤ MOST_MEMBERS }
+    ensures ran { RanTold (λ X Y. Y ≡ pointwise (data_outcome funs.now prog.now 1) X) (ends (S.left src.old) (S.left src.new) (K.held out.old) (K.held out.new)) result }
+    ensures flushed { IsHandedOn (class_of result) (K.flushed out.new) (K.held out.new) }
+    ensures cause { Causes result (count 0 0) (count (S.faults src.old) (S.faults src.new)) (count (K.faults out.old) (K.faults out.new)) }
+{
+    let group = Group::whole(members);
+    let program = Program {
+        prog,
+        funs,
+        group: &group,
+    };
+    let status = run_records(alloc, Work::Data(program), src, out);
+    group.spend();
+    status
 }
 
 // Checks the script of a file.

@@ -11,8 +11,7 @@
 //!   answers as `in_turn` does.
 //!
 //! Both take `Fn`, which several threads may call at once. Which places were tried behind the one that refuses isn't
-//! said, nor in what order, nor how many threads there are. `msl_local` takes its definitions so far, and no crate its
-//! calls.
+//! said, nor in what order, nor how many threads there are.
 #![tactic(auto)]
 
 pub mod laws;

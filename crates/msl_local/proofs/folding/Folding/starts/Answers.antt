@@ -4,12 +4,18 @@ use Rattle.std.proofs.lemmas.Bool.{cases_lt}
 use Rattle.std.proofs.lemmas.Int.{to_z-of_z}
 use Rattle.std.proofs.lemmas.List.{get_or_append_left, get_or_push}
 use Rattle.msl_ops.specs.Meaning.{fold_of}
-use Rattle.msl_local.specs.Folds.{before}
-use Rattle.msl_local.proofs.FoldParts.{IsStep, step_at}
+use Rattle.msl_local.specs.Folds.{before, held_by}
+use Rattle.msl_local.specs.Parts.{flat}
+use Rattle.msl_local.proofs.FoldParts.{IsStep, hand_step, before_next}
 use Rattle.msl_local.proofs.folding.Folding.starts.Goals as goal
 
-step : (c : goal.After-combine-arg-1) → IsStep c.args.self.now.op c.args.self.now.a.now c.args.b c.loop-j.j (to_z w128 c.loop-j.total-bits) (to_z w128 (of_z w128 (slice_index_or c.args.folds.now c.loop-j.j (pos 0))))
-step c = step_at c.args.self.now.op c.args.self.now.a.now c.args.b c.args.folds.now c.loop-j.j (to_z w128 c.loop-j.total-bits) c.args.self.now.few c.all_fit.ensures c.requires c.loop-j-test.true (search rules) c.loop-j.invariant.total
+step : (c : goal.After-combine-arg-1) → IsStep c.args.self.now.op (flat (before c.args.self.now.parts.now c.args.hands c.loop-h.h)) (flat (held_by c.args.self.now.parts.now c.args.hands c.loop-h.h)) (to_z w128 c.loop-h.total-bits) (to_z w128 (of_z w128 (slice_index_or c.args.folds.now c.loop-h.h (pos 0))))
+step c =
+    let w = c.args.self.now in
+    let mine = slice_index_or c.args.folds.now c.loop-h.h (pos 0) in
+    let fit : FitsSigned w128 mine = search rules in
+    hand_step w.op w.parts.now w.few w.fit c.args.hands c.loop-h.h (to_z w128 c.loop-h.total-bits) (to_z w128 (of_z w128 mine)) c.loop-h.invariant.total
+    (to_z-of_z w128 mine fit ∙ c.requires.each c.loop-h.h c.loop-h-test.true)
 
 pub combine-total-requires-clause-a : goal.combine-total-requires-clause-a
 combine-total-requires-clause-a c = (step c).total_in
@@ -29,16 +35,20 @@ module _ (P : ℕ → ℤ → Type 0) where
       go (inl h) = subst (P k) (sym (get_or_append_left xs (x ∷ []) (pos 0) k (omega (arith, h, len)))) (each k h)
       go (inr h) = let e : n ≡ k = omega (arith, h, lt) in subst (P k) (sym (get_or_push xs x (pos 0) k (len ∙ e))) (subst (λ z. P z x) e last)
 
-pub loop-j-preserved : goal.loop-j-preserved
-loop-j-preserved c =
-    let s = step_at c.args.self.now.op c.args.self.now.a.now c.args.b c.args.folds.now c.loop-j.j (to_z w128 c.loop-j.total-bits) c.args.self.now.few c.all_fit.ensures c.requires c.loop-j-test.true (search rules) c.loop-j.invariant.total in
+pub loop-h-preserved : goal.loop-h-preserved
+loop-h-preserved c =
+    let w = c.args.self.now in
+    let mine = slice_index_or c.args.folds.now c.loop-h.h (pos 0) in
+    let fit : FitsSigned w128 mine = search rules in
+    let s = hand_step w.op w.parts.now w.few w.fit c.args.hands c.loop-h.h (to_z w128 c.loop-h.total-bits) (to_z w128 (of_z w128 mine)) c.loop-h.invariant.total
+    (to_z-of_z w128 mine fit ∙ c.requires.each c.loop-h.h c.loop-h-test.true) in
     let result : FitsSigned w128 c.combine-total.result = search rules in
-    let x = to_z w128 c.loop-j.total-bits in
-    let items : c.push_reserved.new.self.items ≡ c.loop-j.starts.items ++ x ∷ [] = search rules in
-    let P : ℕ → ℤ → Type 0 = λ k z. z ≡ fold_of c.args.self.now.op.kind c.args.self.now.op.modulus (before c.args.self.now.a.now c.args.b k) in
+    let x = to_z w128 c.loop-h.total-bits in
+    let items : c.push_reserved.new.self.items ≡ c.loop-h.starts.items ++ x ∷ [] = search rules in
+    let P : ℕ → ℤ → Type 0 = λ k z. z ≡ fold_of w.op.kind w.op.modulus (flat (before w.parts.now c.args.hands k)) in
     record {
-      total = to_z-of_z w128 c.combine-total.result result ∙ c.combine-total.ensures ∙ s.next;
-      count = omega (arith, ap length items, length-append c.loop-j.starts.items (x ∷ []), c.loop-j.invariant.count);
+      total = to_z-of_z w128 c.combine-total.result result ∙ c.combine-total.ensures ∙ s.next ∙ ap (fold_of w.op.kind w.op.modulus) (before_next w.parts.now c.args.hands c.loop-h.h);
+      count = omega (arith, ap length items, length-append c.loop-h.starts.items (x ∷ []), c.loop-h.invariant.count);
       room = search rules;
-      so_far = λ k lt. subst (λ ys. P k (slice_index_or ys k (pos 0))) (sym items) (more P c.loop-j.starts.items x c.loop-j.j c.loop-j.invariant.count c.loop-j.invariant.so_far c.loop-j.invariant.total k lt);
+      so_far = λ k lt. subst (λ ys. P k (slice_index_or ys k (pos 0))) (sym items) (more P c.loop-h.starts.items x c.loop-h.h c.loop-h.invariant.count c.loop-h.invariant.so_far c.loop-h.invariant.total k lt);
     }

@@ -1,0 +1,8 @@
+use Rattle.msl_data.proofs.Values.{array_at, argument_at}
+use Rattle.msl_data.proofs.context.Context.foldl.Goals as goal
+
+pub array-array-requires : goal.array-array-requires
+array-array-requires g c = array_at c.requires.program c.args.self.now.table.now c.requires.shaped c.args.k c.requires.fits.2
+
+pub argument-first-requires : goal.argument-first-requires
+argument-first-requires g c = argument_at c.requires.program c.args.self.now.table.now c.requires.shaped c.args.first c.requires.fits.1

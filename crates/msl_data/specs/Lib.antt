@@ -1,0 +1,4 @@
+pub mod Built
+pub mod Kinds
+pub mod Tables
+pub mod Steps

@@ -1,5 +1,0 @@
-use Rattle.std.proofs.Common.{take, All, FitsSigned, w64}
-use Rattle.msl_local.proofs.numbers.all_fit.Given as goal
-
-abbrev pub invariant-loop-x : goal.invariant-loop-x
-invariant-loop-x l = All (FitsSigned w64) (take l.x-index l.a)
