@@ -15,7 +15,7 @@ use Rattle.msl_array.specs.Arrays.{share, AreParts}
 
 -- ---- where parts begin
 
-begin_up : (n b i j : ℕ) → i ≤ j → begin n b i ≤ begin n b j
+pub begin_up : (n b i j : ℕ) → i ≤ j → begin n b i ≤ begin n b j
 begin_up n b i j h = let scaled = mul-le i (n / b) j (n / b) h (omega arith) in omega arith
 
 pub share_first : (n b p : ℕ) → share n b p 0 ≡ 0
@@ -29,6 +29,12 @@ share_last n b p some members = ap (begin n b) (begin_last b p members) ∙ begi
 
 pub share_within : (n b p m : ℕ) → 1 ≤ b → 1 ≤ p → m ≤ p → share n b p m ≤ n
 share_within n b p m some members h = omega (arith, share_up n b p m p h, share_last n b p some members)
+
+pub flat_push : (parts : List (Vec ℤ)) (v : Vec ℤ) → flat (parts ++ v ∷ []) ≡ flat parts ++ v.items
+flat_push parts v = flat_append parts (v ∷ []) ∙ ap (λ xs. flat parts ++ xs) (flat_one v)
+
+pub flat_all : (parts : List (Vec ℤ)) (i : ℕ) → length parts ≤ i → flat (take i parts) ≡ flat parts
+flat_all parts i h = ap flat (take_all i parts h)
 
 -- ---- one more part, which is read from the list
 
@@ -87,7 +93,7 @@ module _ (xs : List ℤ) (b p : ℕ) (some : 1 ≤ b) (members : 1 ≤ p) where
       let next : from + (to - from) ≡ to = omega (arith, up) in
       let long : length v.items ≡ to - from = omega (arith, ap length is, length-take (to - from) (drop from xs), length-drop from xs, within, up) in
       record {
-        list = (flat_append parts (v ∷ []) ∙ ap (λ xs. flat parts ++ xs) (flat_one v)) ∙ ap₂ (λ (x y : List ℤ). x ++ y) h.list is ∙ sym (take-add from (to - from) xs) ∙ ap (λ k. take k xs) next;
+        list = flat_push parts v ∙ ap₂ (λ (x y : List ℤ). x ++ y) h.list is ∙ sym (take-add from (to - from) xs) ∙ ap (λ k. take k xs) next;
         long = length_push parts v ∙ ap (λ k. k + 1) h.long;
         each = map_push (λ (w : Vec ℤ). length w.items) parts v ∙ ap₂ (λ (x : List ℕ) (y : ℕ). x ++ y ∷ []) h.each long
             ∙ sym (map-range_with_len_more (λ k. share n b p (k + 1) - share n b p k) 0 m m (omega arith));

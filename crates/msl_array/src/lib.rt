@@ -9,6 +9,9 @@
 //!   exactly where the lengths differ, whatever the function does.
 //! - `fold` and `foldl` come to the number that the operation on whole lists gives, or to its fault (`number`). `foldl`
 //!   goes from the first element to the last, since nothing is known of its function.
+//! - `permute`, `permute_partition` and `broadcast_partition` come to the move of that name, in the same blocks, or to its
+//!   fault: blocks that differ in size first, then the function's fault at the least place, then targets that aren't one to
+//!   one (`array`).
 //!
 //! So no answer depends on the group, the blocks or the fabric, and arrays that were made at groups of other sizes are
 //! zipped as any others. Each call leaves the stage and the group of its place (`stage`, `group`). Each but `blocks` may
@@ -16,8 +19,11 @@
 #![tactic(auto)]
 
 mod array;
+mod blocks;
 mod elementwise;
 mod folds;
+mod moves;
 mod parts;
+mod targets;
 
 pub use array::DistArray;

@@ -73,7 +73,7 @@ impl Fabric for Moved {
     }
 
     fn fold(&mut self, _alloc: Global, work: &Folding<'_>) -> Result<i64, Halt> {
-        work.all()
+        work.all().map_err(Halt::Fault)
     }
 
     fn scan(&mut self, alloc: Global, work: &Folding<'_>) -> Result<Vec<Vec<i64>>, Halt> {

@@ -84,10 +84,10 @@ impl<'r, R: Threads> Fabric for Joined<'r, R> {
     fn fold(&mut self, alloc: Global, work: &Folding<'_>) -> Result<i64, Halt> {
         let hands = self.hands(work.parts, PAYS_NUMBERS);
         if hands < 2 {
-            return work.all();
+            return work.all().map_err(Halt::Fault);
         }
         let folds = folds_beside(self.rt, alloc, work, hands)?;
-        work.of_hands(hands, folds.as_slice())
+        work.of_hands(hands, folds.as_slice()).map_err(Halt::Fault)
     }
 
     fn scan(&mut self, alloc: Global, work: &Folding<'_>) -> Result<Vec<Vec<i64>>, Halt> {

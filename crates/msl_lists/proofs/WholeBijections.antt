@@ -57,7 +57,7 @@ module _ (n : ℕ) (f : ℕ → ℕ) (within : (k : ℕ) → k < n → f k < n) 
       (found.0, here, sym (value_at found.0 found.1 here) ∙ found.3 ∙ sym (eqb-true i found.1 found.4))
   taken i false h lt = absurd (no_other i lt h)
 
-  all_taken : (i : ℕ) → i < n → (k : ℕ) × (k < n) × (f k ≡ i)
+  pub all_taken : (i : ℕ) → i < n → (k : ℕ) × (k < n) × (f k ≡ i)
   all_taken i lt = taken i (list_any (eqb i) values) refl lt
 
 -- ---- the values of a function at the places below n

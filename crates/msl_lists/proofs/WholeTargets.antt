@@ -1,5 +1,5 @@
 -- What the targets of a move are, or why it is refused.
-use Rattle.std.proofs.Common.{◌≡◌, ◌≢◌, ◌<◌, ℕ, ℤ, pos, Bool, true, false, List, [], ◌∷◌, Result, Ok, Err, IsOk, is_ok, if◌then◌else◌, refl, sym, ap, ◌∙◌, inl, inr}
+use Rattle.std.proofs.Common.{◌≡◌, ◌≢◌, ◌<◌, ℕ, ℤ, pos, Bool, true, false, List, [], ◌∷◌, Result, Ok, Err, IsOk, is_ok, if◌then◌else◌, refl, sym, subst, ap, ◌∙◌, inl, inr}
 use Rattle.std.specs.Prelude.{◌⊎◌}
 use Rattle.std.proofs.lemmas.Bool.{cases_order}
 use Rattle.msl_base.specs.declared.fault.Fault.{Fault}
@@ -92,6 +92,21 @@ module _ (u : Function) (stage n : ℕ) where
 
   pub targets_found : IsBijection u n → Found (each n value_of)
   targets_found b = found (each n value_of) (each_is n value_of) b
+
+  -- the targets that are answered are the function's values
+  pub targets_are : (ts : List ℤ) → targets_of u stage n ≡ Ok ts → AreValues u n ts × IsBijection u n
+  targets_are ts e = go (each n value_of) (each_is n value_of) e
+    where
+      chosen_one : (xs : List ℤ) (b : Bool) → is_bijection n xs ≡ b → chosen (Ok xs) ≡ Ok ts → (xs ≡ ts) × (is_bijection n xs ≡ true)
+      chosen_one xs true e c = let is : Ok xs ≡ Ok ts = rw e at c in (cc, e)
+      chosen_one xs false e c = let wrong = rw e at c in absurd (cc)
+
+      go : (r : Result (List ℤ) Fault) → IsEach n value_of r → chosen r ≡ Ok ts → AreValues u n ts × IsBijection u n
+      go (Ok xs) h c =
+          let one = chosen_one xs (is_bijection n xs) refl c in
+          let are = are_values xs h in
+          (subst (AreValues u n) one.0 are, bijection_from_test u n xs are one.1)
+      go (Err x) h c = absurd (cc)
 
   -- ---- no bijection
 

@@ -1,10 +1,10 @@
 -- What a function in use gives, place by place and as a whole.
-use Rattle.std.specs.Prelude.{ℕ, ℤ, List, Result}
+use Rattle.std.specs.Prelude.{ℕ, ℤ, pos, List, [], ◌∷◌, length, Result}
 use Rattle.msl_base.specs.declared.fault.Fault.{Fault}
-use Rattle.msl_lists.specs.Whole.{Function, at_stage, function_of, map_all, map_index, zip_all, zip_index}
+use Rattle.msl_lists.specs.Whole.{Function, at_stage, each, function_of, map_all, map_index, zip_all, zip_index}
 use Rattle.msl_local.specs.declared.elements.Elements.{Elements}
 use Rattle.msl_local.specs.declared.inputs.Inputs.{Inputs}
-use Rattle.msl_local.specs.declared.inputs.Inputs.TheVariants.{Map, MapIndex, Zip, ZipIndex}
+use Rattle.msl_local.specs.declared.inputs.Inputs.TheVariants.{Map, MapIndex, Zip, ZipIndex, Place}
 use Rattle.msl_local.specs.Parts.{flat}
 use Rattle.msl_local.specs.Places.{taken}
 
@@ -18,3 +18,4 @@ whole u stage (Map a) = map_all u stage (flat a.now)
 whole u stage (MapIndex a) = map_index u stage (flat a.now)
 whole u stage (Zip a c) = zip_all u stage (flat a.now) (flat c.now)
 whole u stage (ZipIndex a c) = zip_index u stage (flat a.now) (flat c.now)
+whole u stage (Place a) = each (length (flat a.now)) (λ i. at_stage stage (u (pos i ∷ [])))

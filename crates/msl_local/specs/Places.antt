@@ -5,7 +5,7 @@ use Rattle.msl_fun.specs.declared.muscle.Use.{Use}
 use Rattle.msl_fun.specs.Meaning.{params_of, results_of}
 use Rattle.msl_lists.specs.Whole.{at}
 use Rattle.msl_local.specs.declared.inputs.Inputs.{Inputs}
-use Rattle.msl_local.specs.declared.inputs.Inputs.TheVariants.{Map, MapIndex, Zip, ZipIndex}
+use Rattle.msl_local.specs.declared.inputs.Inputs.TheVariants.{Map, MapIndex, Zip, ZipIndex, Place}
 use Rattle.msl_local.specs.Parts.{flat, lengths}
 
 -- the parts in which the places lie, and those of the second list; where there is none, the same
@@ -14,12 +14,14 @@ parts_of (Map a) = a.now
 parts_of (MapIndex a) = a.now
 parts_of (Zip a c) = a.now
 parts_of (ZipIndex a c) = a.now
+parts_of (Place a) = a.now
 
 abbrev pub others : Inputs → List (Vec ℤ)
 others (Map a) = a.now
 others (MapIndex a) = a.now
 others (Zip a c) = c.now
 others (ZipIndex a c) = c.now
+others (Place a) = a.now
 
 -- how many places there are
 abbrev pub places : Inputs → ℕ
@@ -31,6 +33,7 @@ taken (Map a) i = at (flat a.now) i ∷ []
 taken (MapIndex a) i = pos i ∷ at (flat a.now) i ∷ []
 taken (Zip a c) i = at (flat a.now) i ∷ at (flat c.now) i ∷ []
 taken (ZipIndex a c) i = pos i ∷ at (flat a.now) i ∷ at (flat c.now) i ∷ []
+taken (Place a) i = pos i ∷ []
 
 -- a function in use takes so many numbers behind those that it is given, and gives one
 pub record Takes (u : Use) (n : ℕ) : Type 0 where

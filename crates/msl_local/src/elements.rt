@@ -126,6 +126,7 @@ impl<'u, 'a, 'c> Elements<'u, 'a, 'c> {
             Inputs::MapIndex(a) => self.apply(&[i as i64, element(a, m, k)]),
             Inputs::Zip(a, c) => self.apply(&[element(a, m, k), element(c, m, k)]),
             Inputs::ZipIndex(a, c) => self.apply(&[i as i64, element(a, m, k), element(c, m, k)]),
+            Inputs::Place(_) => self.apply(&[i as i64]),
         }
     }
 

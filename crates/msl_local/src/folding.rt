@@ -6,7 +6,7 @@ ghost use Rattle.msl_ops.specs.Lawful.{folded};
 use crate::hands::held_by;
 use crate::parts::all_fit;
 use crate::room;
-use msl_base::Halt;
+use msl_base::{Fault, Halt};
 use msl_ops::{Lawful, Op};
 use std::alloc::Global;
 
@@ -24,9 +24,8 @@ impl<'a> Folding<'a> {
     ghost use Rattle.std.specs.Prelude.{◌+◌, ◌<◌, IfOk, IfErr};
     ghost use Rattle.msl_base.specs.declared.answer.Halt.TheVariants.{NoMemory};
     ghost use Rattle.msl_base.specs.declared.limits.TheConstants.{MOST_BLOCKS};
-    ghost use Rattle.msl_ops.specs.Meaning.{fold_of, settle};
+    ghost use Rattle.msl_ops.specs.Meaning.{fold_of};
     ghost use Rattle.msl_lists.specs.Whole.{fold_all};
-    ghost use Rattle.msl_local.specs.Outcomes.{ComesTo};
     ghost use Rattle.msl_local.specs.Parts.{between};
     ghost use Rattle.msl_local.specs.Folds.{held_by, AreFolds, AreStarts};
 
@@ -42,10 +41,11 @@ impl<'a> Folding<'a> {
     }
 
     /// What all numbers combine to, settled.
-    pub fn all(&self) -> Result<i64, Halt>
-        ensures { ComesTo (fold_all self.now.op self.now.stage (flat self.now.parts.now)) result }
+    pub fn all(&self) -> Result<i64, Fault>
+        ensures { result ≡ fold_all self.now.op self.now.stage (flat self.now.parts.now) }
     {
-        self.settled(self.between(0, self.parts.len()))
+        let total = self.between(0, self.parts.len());
+        self.op.settle(total, self.stage)
     }
 
     /// What the numbers combine to that one of so many hands has, beginning with the unit. No operator leaves 128 bits.
@@ -59,16 +59,16 @@ impl<'a> Folding<'a> {
     }
 
     /// What all numbers combine to, settled, by what those of each hand do.
-    pub fn of_hands(&self, hands: usize, folds: &[i128]) -> Result<i64, Halt>
+    pub fn of_hands(&self, hands: usize, folds: &[i128]) -> Result<i64, Fault>
         requires some { 1 ≤ hands }
         requires folds { AreFolds self.now.op self.now.parts.now hands folds.now }
-        ensures { ComesTo (fold_all self.now.op self.now.stage (flat self.now.parts.now)) result }
+        ensures { result ≡ fold_all self.now.op self.now.stage (flat self.now.parts.now) }
     {
         let mut total = self.op.unit();
         for h in 0..hands {
             total = self.op.combine(total, folds[h]);
         }
-        self.settled(total)
+        self.op.settle(total, self.stage)
     }
 
     /// What each hand begins to scan with, by the folds of all: the fold of what stands before it.
@@ -99,16 +99,6 @@ impl<'a> Folding<'a> {
                 .combine(total, fold(&self.op, self.parts[m].as_slice()));
         }
         total
-    }
-
-    // What is handed out of a fold.
-    fn settled(&self, total: i128) -> Result<i64, Halt>
-        ensures { ComesTo (settle self.now.stage total) result }
-    {
-        match self.op.settle(total, self.stage) {
-            Ok(z) => Ok(z),
-            Err(e) => Err(Halt::Fault(e)),
-        }
     }
 }
 

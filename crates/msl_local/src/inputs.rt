@@ -10,6 +10,8 @@ pub enum Inputs<'a, 'c> {
     Zip(&'a [Vec<i64>], &'c [Vec<i64>]),
     /// The place and the elements of both.
     ZipIndex(&'a [Vec<i64>], &'c [Vec<i64>]),
+    /// The place alone.
+    Place(&'a [Vec<i64>]),
 }
 
 impl Inputs<'_, '_> {
@@ -21,7 +23,11 @@ impl Inputs<'_, '_> {
         ensures { result.now ≡ parts_of self.now }
     {
         match *self {
-            Inputs::Map(a) | Inputs::MapIndex(a) | Inputs::Zip(a, _) | Inputs::ZipIndex(a, _) => a,
+            Inputs::Map(a)
+            | Inputs::MapIndex(a)
+            | Inputs::Zip(a, _)
+            | Inputs::ZipIndex(a, _)
+            | Inputs::Place(a) => a,
         }
     }
 }

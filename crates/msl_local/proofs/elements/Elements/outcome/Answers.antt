@@ -29,6 +29,16 @@ overflow_cast-i c = fits_pos (c.args.first + c.args.k) (omega (arith, first_smal
 pub overflow_cast-i-in-ZipIndex : goal.overflow_cast-i-in-ZipIndex
 overflow_cast-i-in-ZipIndex c = fits_pos (c.args.first + c.args.k) (omega (arith, first_small c.args.self c.args.m c.args.first c.args.k c.requires.within c.requires.first c.requires.inside))
 
+pub overflow_cast-i-in-Place : goal.overflow_cast-i-in-Place
+overflow_cast-i-in-Place c = fits_pos (c.args.first + c.args.k) (omega (arith, first_small c.args.self c.args.m c.args.first c.args.k c.requires.within c.requires.first c.requires.inside))
+
+pub returns-in-Place : goal.returns-in-Place
+returns-in-Place c =
+    let i = c.args.first + c.args.k in
+    let below = first_small c.args.self c.args.m c.args.first c.args.k c.requires.within c.requires.first c.requires.inside in
+    takes c.args.self.now i _ c.apply-in-Place.result
+    (ap (λ (x : ℤ). x ∷ []) (to_z_pos w64 i (omega (arith, below))) ∙ ap (λ inputs. taken inputs i) (sym c.in-Place.is)) c.apply-in-Place.ensures
+
 pub returns-in-MapIndex : goal.returns-in-MapIndex
 returns-in-MapIndex c =
     let i = c.args.first + c.args.k in

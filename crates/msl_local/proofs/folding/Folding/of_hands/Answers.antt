@@ -3,7 +3,6 @@ use Rattle.std.specs.Int.{w128}
 use Rattle.std.proofs.lemmas.Int.{to_z-of_z}
 use Rattle.msl_ops.specs.Meaning.{fold_of, settle}
 use Rattle.msl_local.specs.Folds.{before, held_by}
-use Rattle.msl_local.specs.Outcomes.{ComesTo}
 use Rattle.msl_local.specs.Parts.{flat}
 use Rattle.msl_local.proofs.FoldParts.{IsStep, hand_step, before_next, before_all}
 use Rattle.msl_local.proofs.folding.Folding.of_hands.Goals as goal
@@ -41,4 +40,4 @@ returns c =
     let e : c.loop-h.h ≡ c.args.hands = omega (arith, c.loop-h-test.false, c.loop-h.auto.h-end) in
     let all : to_z w128 c.loop-h.total-bits ≡ fold_of w.op.kind w.op.modulus (flat w.parts.now) =
     c.loop-h.invariant ∙ ap (fold_of w.op.kind w.op.modulus) (ap (λ h. flat (before w.parts.now c.args.hands h)) e ∙ before_all w.parts.now c.args.hands c.requires.some) in
-    subst (λ z. ComesTo (settle w.stage z) c.settled.result) all c.settled.ensures
+    c.settle.ensures ∙ ap (settle w.stage) all
