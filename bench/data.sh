@@ -1,6 +1,7 @@
 #!/usr/bin/env bash
 # Times data programs, each beside a plain program in one run:
 #     `seq` on the sum, the sums up to each number and a light map of one record of 1,000,000 numbers beside data.rs
+#     `seq` on a permutation of it, and on steps of it as a matrix of 1,000 rows and columns, beside data.rs
 #     a map of 101 nodes by the fabric whose members work side by side beside the one whose members take turns
 # Prints the least seconds of some rounds and their ratios. Needs rustc, GNU time and `rt`.
 set -eu
@@ -23,11 +24,51 @@ main = data program on 4;
 SCRIPT
 }
 
+# Writes a script over the record as a matrix in a grid, whose result is s.
+write_matrix_script() {
+    cat >"$work/$1.muesli" <<SCRIPT
+muesli 1;
+fun up(x) = x + 1;
+fun left(s) = -s;
+data program {
+  m = matrix 1000 1000 grid $3 at 0;
+  s = $2 m;
+  give s;
+}
+main = data program on 4;
+SCRIPT
+}
+
+# Writes a script that puts the number at place i of the record to place i * K modulo 1,000,000.
+write_permutation() {
+    cat >"$work/$1.muesli" <<SCRIPT
+muesli 1;
+fun stride(k, i) = i * k % 1000000;
+data program {
+  r = array 3;
+  s = permute stride($2) r;
+  give s;
+}
+main = data program on 4;
+SCRIPT
+}
+
 write_script sum 'fold sum r'
 write_script scan 'scan sum r'
 write_script map 'map up r'
+write_matrix_script matrix-map 'map up' '4 4'
+write_matrix_script transpose transpose '4 4'
+write_matrix_script rotate-rows 'rotateRows left' '4 4'
+write_matrix_script rotate-cols 'rotateCols left' '4 4'
+write_permutation permute 7919
+# Blocks that differ in size, and a function that puts two numbers to one place.
+write_matrix_script ragged-rows 'rotateRows left' '4 3'
+write_matrix_script ragged-cols 'rotateCols left' '3 4'
+write_permutation repeated 7918
 awk 'BEGIN { srand(1); for (i = 0; i < 1000000; i++) printf "%d\n", int((rand() * 2 - 1) * 3037000499) }' |
     paste -sd ' ' >"$work/many"
+# The same record with a last number that is too great for a map.
+sed 's/ [-0-9]*$/ 9223372036854775807/' "$work/many" >"$work/great"
 # No numbers, sums that leave 64 bits at their end or on their way, and a line that is refused.
 cat >"$work/few" <<'RECORDS'
 
@@ -42,16 +83,45 @@ compile data
 # The first call builds the program where it has to.
 "$top/bin/muesli" check "$work/sum.muesli" >"$work/checked"
 
+# The program writes the same as data.rs over each input, and ends alike.
+alike_over_all() {
+    local input
+    for input in many great few refused; do
+        alike "$work/$input" muesli data
+    done
+}
+
 time_seq() {
-    local step input
+    local step
     for step in sum scan map; do
         script=$work/$step.muesli
         arguments=("$step")
-        for input in many few refused; do
-            alike "$work/$input" muesli data
-        done
+        alike_over_all
         compare "$step of 1,000,000 numbers" "$work/many" muesli data
     done
+}
+
+# Fails where the run of a script over the record ends by another message than this, or otherwise than that of data.rs.
+ends_by() {
+    script=$work/$1.muesli
+    alike "$work/many" muesli data
+    grep -qxF "muesli: stage 1: $2" "$work/muesli.err"
+}
+
+time_moves() {
+    local step
+    for step in 'matrix-map' 'transpose' 'rotate-rows 4 4' 'rotate-cols 4 4' 'permute 7919'; do
+        read -ra arguments <<<"$step"
+        script=$work/${arguments[0]}.muesli
+        alike_over_all
+        compare "${arguments[0]} of 1,000,000 numbers" "$work/many" muesli data
+    done
+    arguments=(rotate-rows 4 3)
+    ends_by ragged-rows 'blocks differ in size'
+    arguments=(rotate-cols 3 4)
+    ends_by ragged-cols 'blocks differ in size'
+    arguments=(permute 7918)
+    ends_by repeated 'not a permutation'
 }
 
 # Builds fabrics.rattle, as proved as the program, in a copy of the crates with what was built of them here.
@@ -98,5 +168,6 @@ time_fabrics() {
 }
 
 time_seq
+time_moves
 build_fabrics
 time_fabrics

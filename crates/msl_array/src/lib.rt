@@ -7,11 +7,11 @@
 //! - `map`, `map_index`, `zip_with`, `zip_index` and `scan` come to the operation of that name on whole lists
 //!   (`msl_lists::Whole`), in the same blocks, or to its fault, that of the least place (`array`). A zip answers `Shape`
 //!   exactly where the lengths differ, whatever the function does.
+//! - `permute`, `permute_partition` and `broadcast_partition` come to the move of that name, in as many blocks, or to its
+//!   fault (`array`): `Ragged` where blocks differ in size, then the function's at the least place, then `NotPermutation`
+//!   where it is no map one to one onto the places. Each element is copied once, or twice where elements change places.
 //! - `fold` and `foldl` come to the number that the operation on whole lists gives, or to its fault (`number`). `foldl`
 //!   goes from the first element to the last, since nothing is known of its function.
-//! - `permute`, `permute_partition` and `broadcast_partition` come to the move of that name, in the same blocks, or to its
-//!   fault: blocks that differ in size first, then the function's fault at the least place, then targets that aren't one to
-//!   one (`array`).
 //!
 //! So no answer depends on the group, the blocks or the fabric, and arrays that were made at groups of other sizes are
 //! zipped as any others. Each call leaves the stage and the group of its place (`stage`, `group`). Each but `blocks` may

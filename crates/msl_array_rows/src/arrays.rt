@@ -18,8 +18,8 @@ use std::thread::Threads;
 // The stage of each call.
 const STAGE: u32 = 3;
 
-/// A call, by the name of its function, or by its operator and its modulus; `Foldl` with its first value. `Same` is
-/// none, and gives the array's own list.
+/// A call, by the name of its function, or by its operator and its modulus; `Foldl` with its first value. The functions
+/// of moves are given a number before the place. `Same` is none, and gives the array's own list.
 #[derive(Clone, Copy, Debug)]
 pub enum Call {
     Same,
@@ -30,6 +30,9 @@ pub enum Call {
     Scan(OpKind, i64),
     Fold(OpKind, i64),
     Foldl(&'static str, i64),
+    Permute(&'static str, i64),
+    PermutePartition(&'static str, i64),
+    BroadcastPartition(u32),
 }
 
 /// A fault of the stage of the call.
@@ -38,6 +41,8 @@ pub enum Stop {
     Overflow,
     DivZero,
     Shape(u64, u64),
+    NotPermutation,
+    Ragged,
 }
 
 /// A call on a list, or on two, and what comes of it; a number is a list of one.
@@ -71,9 +76,30 @@ const FEW_SIZES: Sizes = (&[7], &[(3, 3), (64, 2)]);
 
 /// The case in blocks and groups of each size, and by each fabric.
 pub fn meet(rt: &(impl Abort + Threads), alloc: Global, case: &Case<'_>) -> Result<(), Fail> {
-    let funs = functions(rt, alloc)?;
     let long = case.xs.len() > 1024;
     let (blocks, groups) = if long { FEW_SIZES } else { SIZES };
+    meet_at(rt, alloc, blocks, groups, case)
+}
+
+/// The case in so many blocks, in groups of each size, and by each fabric.
+pub fn meet_in(
+    rt: &(impl Abort + Threads),
+    alloc: Global,
+    blocks: u32,
+    case: &Case<'_>,
+) -> Result<(), Fail> {
+    let (_, groups) = SIZES;
+    meet_at(rt, alloc, &[blocks], groups, case)
+}
+
+fn meet_at(
+    rt: &(impl Abort + Threads),
+    alloc: Global,
+    blocks: &[u32],
+    groups: &[(u32, u32)],
+    case: &Case<'_>,
+) -> Result<(), Fail> {
+    let funs = functions(rt, alloc)?;
     for &blocks in blocks {
         for &groups in groups {
             let here = Setting {
@@ -111,6 +137,8 @@ fn is_fault(fault: &Fault, want: Stop) -> bool {
         (Fault::Overflow(stage), Stop::Overflow) => *stage == STAGE,
         (Fault::DivZero(stage), Stop::DivZero) => *stage == STAGE,
         (Fault::Shape(stage, got, own), Stop::Shape(m, n)) => (*stage, *got, *own) == (STAGE, m, n),
+        (Fault::NotPermutation(stage), Stop::NotPermutation) => *stage == STAGE,
+        (Fault::Ragged(stage), Stop::Ragged) => *stage == STAGE,
         _ => false,
     }
 }
@@ -182,6 +210,12 @@ fn called<F: Fabric>(
         Call::Zip(name) => x.zip_with(alloc, at, function(rt, funs, name, 2), y),
         Call::ZipIndex(name) => x.zip_index(alloc, at, function(rt, funs, name, 3), y),
         Call::Scan(kind, modulus) => x.scan(alloc, at, op(rt, kind, modulus)),
+        Call::Permute(name, k) => x.permute(alloc, at, given(rt, funs, name, k)),
+        Call::PermutePartition(name, k) => x.permute_partition(alloc, at, given(rt, funs, name, k)),
+        Call::BroadcastPartition(j) => {
+            assert!(rt; j < here.blocks);
+            x.broadcast_partition(alloc, at, j)
+        }
     };
     let array = array?;
     assert!(rt; array.blocks() == here.blocks);
@@ -215,6 +249,17 @@ const TEXTS: &[&str] = &[
     "fun fault1(x) = if x == 1 then x / 0 else if x == 2 then x + 9223372036854775807 else x;",
     "fun fault2(i, x) = if x == 1 then i / 0 else if x == 2 then x + 9223372036854775807 else i;",
     "fun fault3(i, x, y) = if x == 1 then i / 0 else if x == 2 then x + 9223372036854775807 else y;",
+    // Where what is at place i goes.
+    "fun same(k, i) = i;",
+    "fun all_at(k, i) = k;",
+    "fun moved(k, i) = i + k;",
+    "fun round(k, i) = (i + 1) % k;",
+    "fun strides(k, i) = 7919 * i % k;",
+    "fun again(k, i) = if i == k then 0 else i;",
+    "fun away(k, i) = if i == 1 then k else i;",
+    // k and the place behind it fault, and differ in how; all others go to 0.
+    "fun divides(k, i) = if i == k then i / 0 else if i == k + 1 then i + 9223372036854775807 else 0;",
+    "fun exceeds(k, i) = if i == k then i + 9223372036854775807 else if i == k + 1 then i / 0 else 0;",
 ];
 
 // All functions.
@@ -235,6 +280,18 @@ fn add(rt: &impl Abort, alloc: Global, text: &[u8], funs: &mut Funs) -> Result<(
     let (fun, _) = parse_fun(alloc, text, &tokens, 0, funs)?;
     funs.add(fun)?;
     Ok(())
+}
+
+// The function of a name, which is given k and takes one number behind it.
+fn given<'a>(rt: &impl Abort, funs: &'a Funs, name: &str, k: i64) -> Use<'a>
+    ensures { Takes result 1 }
+{
+    let at = funs.find(name).expect(rt, "a function of the name");
+    assert!(rt; (at as usize) < funs.as_slice().len());
+    let f = funs.muscle(at);
+    assert!(rt; f.widths() == (2, 1));
+    let extra = Small::of(&[k]);
+    Use { f, extra }
 }
 
 // The function of a name, which takes so many numbers and gives one.

@@ -43,6 +43,8 @@ fn given(call: Call, before: i64, i: i64, x: i64, y: i64) -> i64 {
         Call::Scan(OpKind::Min, _) | Call::Fold(OpKind::Min, _) => before.min(x),
         Call::Scan(..) | Call::Fold(..) => before.wrapping_add(x),
         Call::Foldl(..) => x.wrapping_sub(before),
+        // What moves isn't given place by place.
+        Call::Permute(..) | Call::PermutePartition(..) | Call::BroadcastPartition(_) => before,
     }
 }
 

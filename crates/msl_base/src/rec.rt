@@ -42,6 +42,20 @@ impl Rec {
         Ok(Rec { numbers, spare: 0 })
     }
 
+    /// The record of these numbers, in their memory. Takes none.
+    pub fn from_vec(numbers: Vec<i64>) -> Rec
+        ensures { result.numbers ≡ numbers.items }
+    {
+        Rec { numbers, spare: 0 }
+    }
+
+    /// The numbers, in the record's memory. Takes none.
+    pub fn into_vec(self) -> Vec<i64>
+        ensures { result.items ≡ self.numbers }
+    {
+        self.numbers
+    }
+
     /// Appends a number, to the spare room where there is any. Where memory runs out, which may be only where there is
     /// none, the record is left as it was.
     pub fn push(&mut self, x: i64) -> Result<(), NoMemory>

@@ -9,6 +9,16 @@ IsArray (list b a) = ⊤
 IsArray (matrix m a) = ⊥
 IsArray (number z) = ⊥
 
+abbrev pub IsMatrix : Value → Type 0
+IsMatrix (list b a) = ⊥
+IsMatrix (matrix m a) = ⊤
+IsMatrix (number z) = ⊥
+
+abbrev pub IsContainer : Value → Type 0
+IsContainer (list b a) = ⊤
+IsContainer (matrix m a) = ⊤
+IsContainer (number z) = ⊥
+
 abbrev pub IsNumber : Value → Type 0
 IsNumber (list b a) = ⊥
 IsNumber (matrix m a) = ⊥

@@ -1,4 +1,4 @@
-pub mod Built
+pub mod Answers
 pub mod Kinds
 pub mod Tables
 pub mod Steps

@@ -5,12 +5,19 @@ use Rattle.msl_base.specs.declared.answer.Halt.{Halt}
 use Rattle.msl_local.specs.Outcomes.{Stops}
 use Rattle.msl_program.specs.Data as program
 use Rattle.msl_data.specs.declared.table.Value.{Value}
-use Rattle.msl_data.specs.declared.table.Value.TheVariants.{Array, Number}
+use Rattle.msl_data.specs.declared.table.Value.TheVariants.{Array, Matrix, Number}
+use Rattle.msl_data.specs.declared.table.Container.{Container}
+use Rattle.msl_data.specs.declared.table.Container.TheVariants as container
 use Rattle.msl_data.specs.declared.table.Table.{Table}
 
 abbrev pub meaning : Value → program.Value
 meaning (Array d) = program.list d.blocks d.elements
+meaning (Matrix d) = program.matrix d.extent d.elements
 meaning (Number z) = program.number z
+
+abbrev pub held : Container → program.Value
+held (container.Array d) = program.list d.now.blocks d.now.elements
+held (container.Matrix d) = program.matrix d.now.extent d.now.elements
 
 abbrev pub values_of : Table → program.Table
 values_of t = map meaning t.values.items

@@ -1,8 +1,7 @@
-ghost use Rattle.std.specs.Prelude.{◌≡◌, [], length, IfOk, IsTrue};
-ghost use Rattle.std.specs.List.{list_all};
+ghost use Rattle.std.specs.Prelude.{◌≡◌, [], length, IfOk};
+ghost use Rattle.msl_data.specs.Answers.{Gives};
 ghost use Rattle.msl_data.specs.Tables.{TableComes, values_of};
 ghost use Rattle.msl_program.specs.Programs.{no_lines};
-ghost use Rattle.msl_data.specs.Built.{Gives, is_built, is_built_step};
 ghost use Rattle.msl_program.specs.Data.{data_outcome, extended};
 ghost use Rattle.msl_program.specs.ProgramPromise.{EachLineFits, ProgramFits};
 
@@ -11,37 +10,13 @@ use crate::table::Table;
 use msl_base::{Halt, Rec};
 use msl_fabric::{Fabric, Place};
 use msl_fun::Funs;
-use msl_program::{DataLine, DataProg, DataStep};
+use msl_program::{DataLine, DataProg};
 use std::alloc::Global;
 
-/// Whether a data program has only steps that run so far: those that make no matrix and move nothing.
-pub fn is_built(prog: &DataProg) -> bool
-    ensures { result ≡ is_built prog.now }
-{
-    let lines = prog.lines.as_slice();
-    lines.iter().all(|line| is_built_step(&line.step))
-}
-
-fn is_built_step(step: &DataStep) -> bool
-    ensures { result ≡ is_built_step step.now }
-{
-    matches!(
-        step,
-        DataStep::Array(..)
-            | DataStep::ArrayAt { .. }
-            | DataStep::Map(..)
-            | DataStep::MapIndex(..)
-            | DataStep::Zip(..)
-            | DataStep::ZipIndex(..)
-            | DataStep::Fold(..)
-            | DataStep::Scan(..)
-            | DataStep::Foldl(..)
-    )
-}
-
 /// What a data program gives for a record. It runs the lines in order and stops at the first fault, which is that of its
-/// line's step: `Shape` where the record is too short or two arrays differ in length, else one of a function or an
-/// operator, all with the number of the stage. `NoMemory` comes for want of memory alone.
+/// line's step: `Shape` where the record is too short or two arrays differ in length, `Ragged` where blocks that
+/// change places differ in size, `NotPermutation` where they don't go one to one, else one of a function or an operator,
+/// all with the number of the stage. `NoMemory` comes for want of memory alone.
 pub fn run_data<F: Fabric>(
     alloc: Global,
     prog: &DataProg,
@@ -49,8 +24,7 @@ pub fn run_data<F: Fabric>(
     at: &mut Place<'_, F>,
     xs: &[i64],
 ) -> Result<Rec, Halt>
-    requires fits { ProgramFits funs.now prog.now }
-    requires built { IsTrue (is_built prog.now) }
+    requires { ProgramFits funs.now prog.now }
     ensures answer { Gives (data_outcome funs.now prog.now at.old.stage xs.now) result }
     ensures stage { at.new.stage ≡ at.old.stage }
     ensures group { at.new.group ≡ at.old.group }
@@ -68,8 +42,7 @@ fn values<F: Fabric>(
     at: &mut Place<'_, F>,
     input: &[i64],
 ) -> Result<Table, Halt>
-    requires fit { EachLineFits funs.now no_lines lines.now }
-    requires built { IsTrue (list_all (λ l. is_built_step l.step) lines.now) }
+    requires { EachLineFits funs.now no_lines lines.now }
     ensures values { TableComes (extended funs.now at.old.stage input.now [] lines.now) result }
     ensures each { IfOk result (λ t. length (values_of t) ≡ length lines.now) }
     ensures stage { at.new.stage ≡ at.old.stage }

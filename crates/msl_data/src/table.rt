@@ -1,14 +1,15 @@
 ghost use Rattle.std.specs.Prelude.{◌≡◌, ◌<◌, ◌≤◌, [], ◌∷◌, ◌++◌, length, map, IfOk};
 ghost use Rattle.std.specs.Vec.{vec_capacity};
-ghost use Rattle.msl_data.specs.Kinds.{AreGiven, IsArray, IsGiven, IsNumber};
+ghost use Rattle.msl_data.specs.Kinds.{AreGiven, IsArray, IsContainer, IsGiven, IsMatrix, IsNumber};
 ghost use Rattle.msl_base.specs.declared.limits.TheConstants.{MOST_SMALL};
-ghost use Rattle.msl_data.specs.Tables.{meaning, values_of};
-ghost use Rattle.msl_program.specs.Data.{argument, elements, list, number, value_of};
+ghost use Rattle.msl_data.specs.Tables.{held, meaning, values_of};
+ghost use Rattle.msl_program.specs.Data.{argument, elements, list, matrix, number, value_of};
 
 use msl_array::DistArray;
 use msl_base::limits::MOST_SMALL;
 use msl_base::{NoMemory, Rec, Small};
 use msl_fabric::{Fabric, Place};
+use msl_matrix::DistMatrix;
 use msl_program::Arg;
 use std::alloc::Global;
 
@@ -16,7 +17,15 @@ use std::alloc::Global;
 #[derive(Drop)]
 pub enum Value {
     Array(DistArray),
+    Matrix(DistMatrix),
     Number(i64),
+}
+
+/// A line that is no number.
+#[derive(Clone, Copy)]
+pub enum Container<'t> {
+    Array(&'t DistArray),
+    Matrix(&'t DistMatrix),
 }
 
 /// The values of the lines so far, in order.
@@ -44,6 +53,18 @@ impl Table {
         self.values.push_reserved(value);
     }
 
+    /// The array or the matrix that a line is.
+    pub fn container(&self, k: u32) -> Container<'_>
+        requires { IsContainer (value_of (values_of self.now) k) }
+        ensures { value_of (values_of self.now) k ≡ held result }
+    {
+        match &self.values[k as usize] {
+            Value::Array(array) => Container::Array(array),
+            Value::Matrix(matrix) => Container::Matrix(matrix),
+            Value::Number(_) => unreachable!(),
+        }
+    }
+
     /// The array that a line is.
     pub fn array(&self, k: u32) -> &DistArray
         requires { IsArray (value_of (values_of self.now) k) }
@@ -51,7 +72,18 @@ impl Table {
     {
         match &self.values[k as usize] {
             Value::Array(array) => array,
-            Value::Number(_) => unreachable!(),
+            Value::Matrix(_) | Value::Number(_) => unreachable!(),
+        }
+    }
+
+    /// The matrix that a line is.
+    pub fn matrix(&self, k: u32) -> &DistMatrix
+        requires { IsMatrix (value_of (values_of self.now) k) }
+        ensures { value_of (values_of self.now) k ≡ matrix result.now.extent result.now.elements }
+    {
+        match &self.values[k as usize] {
+            Value::Matrix(matrix) => matrix,
+            Value::Array(_) | Value::Number(_) => unreachable!(),
         }
     }
 
@@ -63,7 +95,7 @@ impl Table {
     {
         match &self.values[k as usize] {
             Value::Number(number) => *number,
-            Value::Array(_) => unreachable!(),
+            Value::Array(_) | Value::Matrix(_) => unreachable!(),
         }
     }
 
@@ -105,6 +137,7 @@ impl Table {
     {
         match &self.values[k as usize] {
             Value::Array(array) => array.to_rec(alloc, at),
+            Value::Matrix(matrix) => matrix.to_rec(alloc, at),
             Value::Number(number) => Rec::of_slice(alloc, &[*number]),
         }
     }

@@ -1,4 +1,5 @@
 pub mod Exchanges
 pub mod Grids
+pub mod Rounds
 pub mod Rows
 pub mod Turns

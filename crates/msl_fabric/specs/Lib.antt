@@ -1,1 +1,4 @@
 pub mod Grids
+pub mod Moves
+pub mod Routes
+pub mod Targets

@@ -12,6 +12,8 @@
 //! - Over any fabric `broadcast` puts a record at each member (`each`), `scatter` puts part i at member i (`parts`), and
 //!   `gather` holds the parts in the order of the members (`parts`), each as an equation of whole lists. `all_to_all` is
 //!   the exchange.
+//! - `permute_blocks` puts block i in the place to[i], and `rotate_blocks` each block so many places further, and round
+//!   (`blocks`). In each round every member sends one of its blocks by the fabric's exchange, and no number is copied.
 //! - `laws`: two exchanges of the same boxes give the same; an exchange leads back; a row of the answer is a column of
 //!   what went out. Worked examples. `Grids` says what boxes are to contracts.
 //!
@@ -25,8 +27,11 @@ mod fabric;
 mod joined;
 pub mod laws;
 mod lines;
+mod moves;
+mod routes;
 
 pub use boxes::Boxes;
 pub use collectives::{all_to_all, broadcast, gather, scatter};
 pub use fabric::{Fabric, Moved, Place};
 pub use joined::Joined;
+pub use moves::{permute_blocks, rotate_blocks};

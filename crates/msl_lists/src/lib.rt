@@ -10,8 +10,8 @@
 //!   clauses `one` and `answer`).
 //! - Lists in parts: the answer for blocks side by side is that for the whole (`in_parts`, and the clauses `blocks`).
 //!
-//! `msl_local` computes maps, zips, folds and scans, part by part; there is no code for the others so far. The meanings
-//! of `msl_program` stand on these definitions.
+//! `msl_local` computes maps, zips, folds and scans, part by part, and `msl_array` the moves of lists; there is no code for
+//! matrices so far. The meanings of `msl_program` stand on these definitions.
 #![tactic(auto)]
 
 pub mod laws;

@@ -5,7 +5,7 @@ use Rattle.std.proofs.lemmas.Bool.Decides.{nat_tests}
 use Rattle.msl_base.specs.declared.fault.Fault.{Fault}
 use Rattle.msl_lists.specs.Whole.{Function, at, at_stage, each, if_same_length}
 use Rattle.msl_local.specs.declared.inputs.Inputs.{Inputs}
-use Rattle.msl_local.specs.declared.inputs.Inputs.TheVariants.{Map, MapIndex, Zip, ZipIndex, Place}
+use Rattle.msl_local.specs.declared.inputs.Inputs.TheVariants.{Map, MapIndex, Zip, ZipIndex, Place, MapCell, ZipCell}
 use Rattle.msl_local.specs.Parts.{flat, lengths, start}
 use Rattle.msl_local.specs.Places.{places, taken, parts_of, others}
 use Rattle.msl_local.specs.Cells.{whole}
@@ -20,6 +20,8 @@ whole_is u stage (MapIndex a) h = refl
 whole_is u stage (Zip a c) h = same_length stage (flat a.now) (flat c.now) _ (flat_alike a.now c.now h)
 whole_is u stage (ZipIndex a c) h = same_length stage (flat a.now) (flat c.now) _ (flat_alike a.now c.now h)
 whole_is u stage (Place a) h = refl
+whole_is u stage (MapCell a w) h = refl
+whole_is u stage (ZipCell a c w) h = refl
 
 -- element k of part m of a second list, which has parts of the same lengths
 pub at_other : (a c : List (Vec ℤ)) (m k : ℕ) (d e : Vec ℤ) → lengths c ≡ lengths a → m < length a → k < size (slice_index_or a m d) → at (flat c) (start a m + k) ≡ at ((slice_index_or c m e).items) k

@@ -5,3 +5,4 @@ pub mod Cells
 pub mod FoldParts
 pub mod Running
 pub mod Together
+pub mod Windows

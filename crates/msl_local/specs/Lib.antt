@@ -3,3 +3,4 @@ pub mod Outcomes
 pub mod Places
 pub mod Cells
 pub mod Folds
+pub mod Windows

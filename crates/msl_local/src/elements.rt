@@ -1,8 +1,10 @@
 ghost use Rattle.std.specs.Prelude.{◌≡◌, ℤ, Err};
+ghost use Rattle.std.proofs.Props.{props};
 ghost use Rattle.msl_lists.specs.Whole.{at_stage};
 ghost use Rattle.msl_local.specs.Places.{Suits};
 
 use crate::hands::held_by;
+use crate::inputs::cell;
 use crate::parts::{element, start};
 use crate::{Inputs, room};
 use msl_base::{Fault, Halt};
@@ -17,7 +19,7 @@ pub struct Elements<'u, 'a, 'c> {
     pub u: Use<'u>,
     pub stage: u32,
     pub inputs: Inputs<'a, 'c>,
-    pub ghost right: { Suits u inputs },
+    pub ghost right: { Suits u inputs } by { Prim.hlevel props },
 }
 
 /// The fault of a function as one of a stage.
@@ -127,6 +129,14 @@ impl<'u, 'a, 'c> Elements<'u, 'a, 'c> {
             Inputs::Zip(a, c) => self.apply(&[element(a, m, k), element(c, m, k)]),
             Inputs::ZipIndex(a, c) => self.apply(&[i as i64, element(a, m, k), element(c, m, k)]),
             Inputs::Place(_) => self.apply(&[i as i64]),
+            Inputs::MapCell(a, windows) => {
+                let (row, col) = cell(windows, m, k);
+                self.apply(&[row, col, element(a, m, k)])
+            }
+            Inputs::ZipCell(a, c, windows) => {
+                let (row, col) = cell(windows, m, k);
+                self.apply(&[row, col, element(a, m, k), element(c, m, k)])
+            }
         }
     }
 

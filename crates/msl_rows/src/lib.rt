@@ -1,12 +1,14 @@
 //! Tests of the whole program, as tables over `muesli_plain` with objects in memory: what is written, the message, the
 //! status, and that nothing was read where nothing is run.
 //!
-//! - `rows`, `scripts`: commands, scripts of functions, inputs and what comes of them. `examples`: the scripts of the
-//!   folder `examples`, with their records and results, and what `check` makes of each.
+//! - `rows`, `scripts`: commands, scripts of functions, inputs and what comes of them. `examples`,
+//!   `examples_of_data`: the scripts of the folder `examples`, with their records and results, and what `check` makes of
+//!   each.
 //! - `faults`: each read, write and flush fails in turn, and is told behind the beginning of the results; a failing
 //!   fetch; a message that can't be written; what failed isn't tried again.
 //! - `messages`: the message and the number of each status. `asked`: which files the library was asked for.
-//! - `programs`: data programs, their faults, and that neither blocks nor members change what they give.
+//! - `programs`: data programs, their faults, and that neither blocks nor members change what they give. `moves`,
+//!   `matrices`: the same of those that move numbers and blocks, and of those with matrices.
 //! - `refusals`, `limits`, `unbuilt`: texts that are no script, scripts, lines and records at the limits and one above,
 //!   and main stages that `seq` doesn't run.
 //! - `checks`: what `check` writes, and that it refuses what `seq` refuses.
@@ -19,13 +21,19 @@ mod checks;
 #[cfg(test)]
 mod examples;
 #[cfg(test)]
+mod examples_of_data;
+#[cfg(test)]
 mod faults;
 #[cfg(test)]
 mod fixture;
 #[cfg(test)]
 mod limits;
 #[cfg(test)]
+mod matrices;
+#[cfg(test)]
 mod messages;
+#[cfg(test)]
+mod moves;
 #[cfg(test)]
 mod programs;
 #[cfg(test)]

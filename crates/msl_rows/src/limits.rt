@@ -237,6 +237,10 @@ fn many_stages(rt: HostRuntime) -> Result<(), Fail> {
 // How many numbers a record may have.
 const MOST_NUMBERS: usize = 1_048_576;
 
+// The greatest matrix in the greatest grid, of which each number is below 1.
+const GREATEST: &str =
+    "muesli 1; fun low(x) = x < 1; data t { m = matrix 1024 1024 grid 32 32 at 0; n = transpose m; l = map low n; s = fold sum l; give s; } main = data t on 64;";
+
 const WIDE: &[u8] = b"muesli: line 1: too many numbers\n";
 
 #[test]
@@ -245,6 +249,11 @@ fn long_records(rt: HostRuntime) -> Result<(), Fail> {
     let mut zeros = String::from_str(alloc, "0")?;
     push_times(&mut zeros, " 0", MOST_NUMBERS - 1)?;
     meet_row(&rt, alloc, Row::Done(SUM, zeros.as_bytes(), b"0\n"))?;
+    meet_row(
+        &rt,
+        alloc,
+        Row::Done(GREATEST, zeros.as_bytes(), b"1048576\n"),
+    )?;
     zeros.push_str(" 0")?;
     meet_row(&rt, alloc, Row::Faults(SUM, zeros.as_bytes(), b"", WIDE))
 }

@@ -119,7 +119,7 @@ const LINES: &[Row<'static>] = &[
         b"1 3 -1\n",
         b"1 2 -3\n",
     ),
-    // A script may have other definitions, built or not.
+    // A script may have other definitions.
     Row::Done(
         "muesli 1; fun f(x) = x; data m { a = matrix 1 1 grid 1 1 at 0; give a; } data t { a = array 1; give a; } main = data t on 64;",
         b"3\n",

@@ -1,4 +1,4 @@
-//! Scripts whose main stage `seq` doesn't run: all but functions and data programs of built steps.
+//! Scripts whose main stage `seq` doesn't run: all but a function and a data program.
 
 use crate::fixture::{Row, meet_row};
 use crate::refusals::KNOWN;
@@ -15,14 +15,6 @@ const PICK: &str =
 // Definitions and the main stage.
 const WORKED: &[(&str, &str)] = &[
     (SQUARE, "farm 3 { atomic sq }"),
-    (
-        "fun nxt(i) = (i + 1) % 3;\nfun zero(i) = 0;\ndata t { a = array 3; b = permutePartition nxt a; give b; }\n",
-        "data t on 2",
-    ),
-    (
-        "fun neg(i) = -i;\ndata t { a = matrix 4 4 grid 2 2 at 0; b = rotateRows neg a; give b; }\n",
-        "data t on 2",
-    ),
     (
         "fun tiny(a, b) = b - a <= 1;\nfun one(a, b) = if b - a == 1 then a else 0;\nfun half(a, b, j) = [if j == 0 then a else (a + b) / 2, if j == 0 then (a + b) / 2 else b];\nfun add(x, y) = x + y;\ndivcon range { parts 2; cutoff 3; simple tiny; solve one; divide half; combine add; }\n",
         "divcon range on 2",
@@ -49,6 +41,10 @@ const WORKED: &[(&str, &str)] = &[
         "data t { a = array 3; b = scan sum a; give b; }\n",
         "pipe { data t on 2 }",
     ),
+    (
+        "fun neg(i) = -i;\ndata t { a = matrix 4 4 grid 2 2 at 0; b = rotateRows neg a; give b; }\n",
+        "farm 1 { data t on 2 }",
+    ),
 ];
 
 // Definitions behind a head, and a main stage that isn't built.
@@ -67,29 +63,6 @@ fn is_unbuilt(
 fn worked_scripts(rt: HostRuntime) -> Result<(), Fail> {
     for (items, main) in WORKED {
         is_unbuilt(&rt, rt.alloc(), "muesli 1;\n", items, main)?;
-    }
-    Ok(())
-}
-
-// Lines of a data program that make a matrix or move numbers, each of them given or not.
-const STEPS: &[&str] = &[
-    "m = matrix 1 1 grid 1 1 at 0; give m;",
-    "m = matrix 1 1 grid 1 1 at 0; give a;",
-    "b = permutePartition f a; give b;",
-    "b = permute f a; give b;",
-    "b = permute f a; give a;",
-    "b = broadcastPartition 0 a; give b;",
-    "m = matrix 1 1 grid 1 1 at 0; n = transpose m; s = fold sum n; give s;",
-    "m = matrix 1 1 grid 1 1 at 0; n = rotateRows f m; give a;",
-    "m = matrix 1 1 grid 1 1 at 0; n = rotateCols f m; give a;",
-];
-
-#[test]
-fn steps_of_programs(rt: HostRuntime) -> Result<(), Fail> {
-    let alloc = rt.alloc();
-    for lines in STEPS {
-        let items = format!(in alloc; "fun f(x) = x; data d {{ a = array 1; {lines} }} ")?;
-        is_unbuilt(&rt, alloc, "muesli 1; ", items.as_str(), "data d on 1")?;
     }
     Ok(())
 }

@@ -1,11 +1,11 @@
 -- What is said of a run of a script's file.
 use Rattle.std.proofs.Common.{arith, ◌≡◌, ℕ, ◌<◌, ◌≤◌, ◌+◌, List, length, replicate, le-leb, ap, sym, subst, Option, Some, None, Result, Ok, Err, ◌⊎◌, inl, inr, [], append-nil, refl, ◌∙◌}
-use Rattle.std.specs.Prelude.{MatchBool, IsTrue, false, true, slice_get, slice_index_or}
+use Rattle.std.specs.Prelude.{MatchBool, false, slice_get, slice_index_or}
 use Rattle.std.specs.Io.KnownBytes.{Appends, Keeps}
 use Rattle.std.proofs.KnownBytes.{Appends-kept}
 use Rattle.std.proofs.lemmas.Bool.{lt-leb}
 use Rattle.std.proofs.lemmas.List.{length-replicate}
-use Rattle.std.proofs.lemmas.Option.{same_Some, slice_get_read}
+use Rattle.std.proofs.lemmas.Option.{slice_get_read}
 use Rattle.msl_base.specs.Streams.{pointwise}
 use Rattle.msl_base.specs.declared.limits.TheConstants.{MOST_SCRIPT_BYTES}
 use Rattle.msl_io.specs.Fetching.{FileIs, IsLonger}
@@ -21,7 +21,6 @@ use Rattle.msl_program.specs.Fitting.{Fits, IsWhole}
 use Rattle.msl_program.specs.Calls.{atomic_outcome}
 use Rattle.msl_program.specs.Data.{data_outcome}
 use Rattle.msl_program.specs.Runs.{outcome_at, seq_run}
-use Rattle.msl_data.specs.Built.{is_built}
 use Rattle.msl_grammar.specs.ScriptGrammar.{ReadsAs, ReadsTo}
 use Rattle.msl_grammar.proofs.Texts.{computed}
 use Rattle.msl_run.specs.declared.status.Status.{Status}
@@ -30,7 +29,7 @@ use Rattle.msl_run.specs.Causes.{Causes, Rises, Count}
 use Rattle.msl_run.specs.Headline.{Ends, RanTold}
 use Rattle.msl_run.specs.Statuses.{class_of, IsComplete, IsEnding}
 use Rattle.msl_run.specs.Steps.{IsScriptOf}
-use Rattle.msl_run.specs.TopCall.{check_text, Checks, GaveUp, IsBuilt, IsBuiltOver, IsRunnable, IsUntouched, OfCommand, OfFile, OfReading, OfText, Runs, Wrote}
+use Rattle.msl_run.specs.TopCall.{check_text, Checks, GaveUp, IsBuilt, IsBuiltStage, IsRunnable, IsUntouched, OfCommand, OfFile, OfReading, OfText, Runs, Wrote}
 use Rattle.msl_run.specs.declared.words.Command.{Command}
 use Rattle.msl_run.specs.declared.words.Command.TheVariants.{Seq, Check}
 
@@ -39,7 +38,7 @@ use Rattle.msl_run.specs.declared.words.Command.TheVariants.{Seq, Check}
 pub of_function : (s : Script) (f : ℕ) (e : Ends) (funs : List Fun) (at : ℕ) (status : Status) → s.main ≡ Atomic f → funs ≡ s.funs → at ≡ f
     → RanTold (λ X Y. Y ≡ pointwise (atomic_outcome funs 1 at) X) e status → Runs s e status
 of_function s f e funs at status main same is h = inl (
-  subst (IsBuiltOver s.datas) (sym main) tt,
+  subst IsBuiltStage (sym main) tt,
   subst (λ (st : Stage). RanTold (λ X Y. Y ≡ seq_run s 1 st X) e status) (sym main)
       (subst (λ (k : ℕ). RanTold (λ X Y. Y ≡ pointwise (atomic_outcome s.funs 1 k) X) e status) is
       (subst (λ (fs : List Fun). RanTold (λ X Y. Y ≡ pointwise (atomic_outcome fs 1 at) X) e status) same h)),
@@ -51,29 +50,23 @@ module _ (s : Script) (i on : ℕ) (p : DataProg) (e : Ends) (status : Status) (
   is_named progs whole same at =
       slice_get_read s.datas (length s.datas) i p refl (subst (Fits s false) main whole) (at ∙ ap (λ (ps : List DataProg). slice_index_or ps i p) same)
 
-  pub of_program : (funs : List Fun) → slice_get s.datas i ≡ Some p → IsTrue (is_built p) → funs ≡ s.funs → RanTold (λ X Y. Y ≡ pointwise (data_outcome funs p 1) X) e status → Runs s e status
-  of_program funs is built same h = inl (
-    subst (IsBuiltOver s.datas) (sym main) (p, is, built),
+  pub of_program : (funs : List Fun) → slice_get s.datas i ≡ Some p → funs ≡ s.funs → RanTold (λ X Y. Y ≡ pointwise (data_outcome funs p 1) X) e status → Runs s e status
+  of_program funs is same h = inl (
+    subst IsBuiltStage (sym main) tt,
     subst (λ (st : Stage). RanTold (λ X Y. Y ≡ seq_run s 1 st X) e status) (sym main)
         (subst (λ (o : Option DataProg). RanTold (λ X Y. Y ≡ pointwise (λ x. outcome_at o (λ q. data_outcome s.funs q 1 x)) X) e status) (sym is)
         (subst (λ (fs : List Fun). RanTold (λ X Y. Y ≡ pointwise (data_outcome fs p 1) X) e status) same h)),
   )
 
-  pub of_unbuilt : slice_get s.datas i ≡ Some p → false ≡ is_built p → IsBuilt s → ⊥
-  of_unbuilt is isnt built = other (subst (IsBuiltOver s.datas) main built)
-    where
-      other : IsBuiltOver s.datas (Data i on) → ⊥
-      other (q, at, holds) = let turned : false ≡ true = isnt ∙ subst (λ (r : DataProg). IsTrue (is_built r)) (same_Some q p (sym at ∙ is)) holds in cc
-
 -- any other stage isn't built
-pub not_built : (datas : List DataProg) (st : Stage) → ((f : ℕ) → st ≡ Atomic f → ⊥) → ((i on : ℕ) → st ≡ Data i on → ⊥) → IsBuiltOver datas st → ⊥
-not_built datas (Atomic f) no_function no_program built = no_function f refl
-not_built datas (Data i on) no_function no_program built = no_program i on refl
-not_built datas (Filter f) no_function no_program built = built
-not_built datas (DivCon d members) no_function no_program built = built
-not_built datas (Bnb b members) no_function no_program built = built
-not_built datas (farm workers stage) no_function no_program built = built
-not_built datas (Pipe' _ stages) no_function no_program built = built
+pub not_built : (st : Stage) → ((f : ℕ) → st ≡ Atomic f → ⊥) → ((i on : ℕ) → st ≡ Data i on → ⊥) → IsBuiltStage st → ⊥
+not_built (Atomic f) no_function no_program built = no_function f refl
+not_built (Data i on) no_function no_program built = no_program i on refl
+not_built (Filter f) no_function no_program built = built
+not_built (DivCon d members) no_function no_program built = built
+not_built (Bnb b members) no_function no_program built = built
+not_built (farm workers stage) no_function no_program built = built
+not_built (Pipe' _ stages) no_function no_program built = built
 
 -- ---- a file
 

@@ -1,5 +1,5 @@
 -- How a script is come by, how far a run has come, and what one step of it does.
-use Rattle.std.specs.Prelude.{ℕ, ◌≡◌, ◌<◌, ◌≤◌, ◌+◌, ◌⊎◌, List, [], ◌++◌, length, Option, Some, None, Result, Ok, Err, IsTrue, ⊤}
+use Rattle.std.specs.Prelude.{ℕ, ◌≡◌, ◌<◌, ◌≤◌, ◌+◌, ◌⊎◌, List, [], ◌++◌, length, Option, Some, None, Result, Ok, Err, ⊤}
 use Rattle.std.specs.Io.KnownBytes.{Appends, Keeps}
 use Rattle.msl_base.specs.declared.fault.Fault.TheVariants as faults
 use Rattle.msl_base.specs.declared.limits.TheConstants.{MOST_SCRIPT_BYTES}
@@ -19,14 +19,12 @@ use Rattle.msl_program.specs.Script.{Script}
 use Rattle.msl_program.specs.Calls.{atomic_outcome}
 use Rattle.msl_program.specs.Data.{data_outcome}
 use Rattle.msl_program.specs.ProgramPromise.{ProgramFits}
-use Rattle.msl_data.specs.Built.{is_built}
 use Rattle.msl_grammar.specs.ScriptGrammar.{ReadsTo}
 use Rattle.msl_run.specs.Causes.{Count, Rises, Stays}
 use Rattle.msl_run.specs.declared.status.Status.{Status}
 use Rattle.msl_run.specs.declared.status.Status.TheVariants.{Done, Usage, Library, ScriptLong, Script as Refused, Unbuilt, Stream as Faulted, Read, Write, Memory}
 use Rattle.msl_run.specs.declared.sequence.Step.{Step}
 use Rattle.msl_run.specs.declared.sequence.Step.TheVariants as step
-use Rattle.msl_run.specs.declared.work.Program.{Program}
 use Rattle.msl_run.specs.declared.work.Work.{Work}
 use Rattle.msl_run.specs.declared.work.Work.TheVariants.{Atomic, Data}
 
@@ -118,15 +116,10 @@ TakeCause (Err Write) before now = ⊥
 
 -- ---- one record
 
--- a program that fits its functions, of which each step is built
-pub record IsReadyProgram (p : Program) : Type 0 where
-  pub fits : ProgramFits p.funs.now p.prog.now
-  pub built : IsTrue (is_built p.prog.now)
-
--- work that can be done at any record
+-- work that can be done at any record: a data program has to fit its functions
 abbrev pub IsReady : Work → Type 0
 IsReady (Atomic f) = ⊤
-IsReady (Data p) = IsReadyProgram p
+IsReady (Data p) = ProgramFits p.funs.now p.prog.now
 
 -- what a record gives
 abbrev pub outcome_of : Work → Record → Outcome

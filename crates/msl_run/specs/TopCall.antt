@@ -1,5 +1,5 @@
 -- What the top call says of its words, of the script and of the run.
-use Rattle.std.specs.Prelude.{ℕ, ◌≡◌, ◌≤◌, nat_le, length, ◌⊎◌, ◌==◌, ◌++◌, decimal, not, Bool, if◌then◌else◌, false, List, [], ◌∷◌, codes, Option, Some, None, Result, Ok, Err, MatchBool, IsTrue, ⊤}
+use Rattle.std.specs.Prelude.{ℕ, ◌≡◌, ◌≤◌, nat_le, length, ◌⊎◌, ◌==◌, ◌++◌, decimal, not, Bool, if◌then◌else◌, false, List, [], ◌∷◌, codes, Option, Some, None, Result, Ok, Err, MatchBool, ⊤}
 use Rattle.std.specs.Str.{bytes_eq}
 use Rattle.std.specs.Io.KnownBytes.{Appends}
 use Rattle.msl_io.specs.Fetching.{FileIs}
@@ -12,9 +12,7 @@ use Rattle.msl_program.specs.declared.stage.Stage.{Stage}
 use Rattle.msl_program.specs.declared.stage.Stage.TheVariants.{Atomic, Filter, Data, DivCon, Bnb, Pipe'}
 use Rattle.msl_program.specs.Stages.{farm}
 use Rattle.msl_program.specs.Need.{need}
-use Rattle.msl_program.specs.Runs.{AtPlace, SeqRuns}
-use Rattle.msl_program.specs.declared.data.DataProg.{DataProg}
-use Rattle.msl_data.specs.Built.{is_built}
+use Rattle.msl_program.specs.Runs.{SeqRuns}
 use Rattle.msl_grammar.specs.ScriptGrammar.{ReadsAs, ReadsTo}
 use Rattle.msl_script_print.specs.ScriptText.{script_bits}
 use Rattle.msl_base.specs.declared.limits.TheConstants.{MOST_SCRIPT_BYTES}
@@ -45,19 +43,19 @@ command _ = None
 abbrev pub IsUntouched : Ends → Type 0
 IsUntouched e = (e.left_now ≡ e.left) × (e.held_now ≡ e.held)
 
--- a stage that `seq` runs: a function, or a data program of which each step is built
-abbrev pub IsBuiltOver : List DataProg → Stage → Type 0
-IsBuiltOver datas (Atomic f) = ⊤
-IsBuiltOver datas (Data i on) = AtPlace datas i (λ p. IsTrue (is_built p))
-IsBuiltOver datas (Filter i) = ⊥
-IsBuiltOver datas (DivCon i on) = ⊥
-IsBuiltOver datas (Bnb i on) = ⊥
-IsBuiltOver datas (farm workers stage) = ⊥
-IsBuiltOver datas (Pipe' _ stages) = ⊥
+-- a stage that `seq` runs: at each record a function or a data program
+abbrev pub IsBuiltStage : Stage → Type 0
+IsBuiltStage (Atomic f) = ⊤
+IsBuiltStage (Data i on) = ⊤
+IsBuiltStage (Filter i) = ⊥
+IsBuiltStage (DivCon i on) = ⊥
+IsBuiltStage (Bnb i on) = ⊥
+IsBuiltStage (farm workers stage) = ⊥
+IsBuiltStage (Pipe' _ stages) = ⊥
 
 -- `seq` runs the script
 abbrev pub IsBuilt : Script → Type 0
-IsBuilt s = IsBuiltOver s.datas s.main
+IsBuilt s = IsBuiltStage s.main
 
 -- `seq` over a script: what its run left behind, where it is built
 abbrev pub Runs : Script → Ends → Status → Type 0

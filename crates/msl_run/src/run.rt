@@ -1,7 +1,6 @@
-ghost use Rattle.std.specs.Prelude.{◌≡◌, ◌≤◌, ℕ, List, IfErr, IfOk, IsTrue, Option, length};
+ghost use Rattle.std.specs.Prelude.{◌≡◌, ◌≤◌, ℕ, List, IfErr, IfOk, Option, length};
 ghost use Rattle.msl_base.specs.Streams.{pointwise};
 ghost use Rattle.msl_base.specs.declared.limits.TheConstants.{MOST_MEMBERS, MOST_SCRIPT_BYTES};
-ghost use Rattle.msl_data.specs.Built.{is_built};
 ghost use Rattle.msl_io.specs.Known.{Told};
 ghost use Rattle.msl_program.specs.Data.{data_outcome};
 ghost use Rattle.msl_program.specs.ProgramPromise.{ProgramFits};
@@ -19,7 +18,6 @@ use crate::words::{Command, Words, WordsFault, command_of};
 use crate::work::{Program, Work};
 use msl_base::NoMemory;
 use msl_base::limits::MOST_SCRIPT_BYTES;
-use msl_data::is_built;
 use msl_fun::Funs;
 use msl_group::Group;
 use msl_io::{Fetched, Library, Piece, Sink, Source, WriteFault, write_text};
@@ -35,10 +33,10 @@ use std::thread::Threads;
 ///
 /// `Usage` comes exactly where the words are no command. Of the script's file, `ScriptLong` comes where it has more than
 /// 1,048,576 bytes, else `Script` where it is no script, with the first test that fails and its place, else, at `seq`
-/// alone, `Unbuilt` where its main stage is neither `atomic` nor a data program of which no line makes a matrix or moves
-/// numbers: there nothing else comes but `Library` and `Memory`, and none of the three comes anywhere else. `Library`,
-/// `Read` and `Write` come only where the object counted a fault in this call, and `Memory` where memory ran out, which no
-/// clause says. No fault is passed over: a count rises at these alone.
+/// alone, `Unbuilt` where its main stage is neither `atomic` nor `data`: there nothing else comes but `Library` and
+/// `Memory`, and none of the three comes anywhere else. `Library`, `Read` and `Write` come only where the object counted a
+/// fault in this call, and `Memory` where memory ran out, which no clause says. No fault is passed over: a count rises at
+/// these alone.
 ///
 /// The clause `ran` says what was read and written at each answer. Where the library doesn't tell its files it speaks of
 /// some text, and where the sink doesn't tell its bytes of some that were written. Where the source doesn't tell its
@@ -131,9 +129,6 @@ fn run_script<R: Threads + Sync, S: Source, K: Sink>(
         }
         Stage::Data(at, members) => {
             let prog = &script.datas().as_slice()[*at as usize];
-            if !is_built(prog) {
-                return Status::Unbuilt;
-            }
             run_program(alloc, prog, script.funs(), *members, src, out)
         }
         _ => Status::Unbuilt,
@@ -150,7 +145,6 @@ fn run_program<S: Source, K: Sink>(
     out: &mut K,
 ) -> Status
     requires fits { ProgramFits funs.now prog.now }
-    requires built { IsTrue (is_built prog.now) }
     requires some { 1 ≤ members }
     requires few { members ≤ MOST_MEMBERS }
     ensures ran { RanTold (λ X Y. Y ≡ pointwise (data_outcome funs.now prog.now 1) X) (ends (S.left src.old) (S.left src.new) (K.held out.old) (K.held out.new)) result }

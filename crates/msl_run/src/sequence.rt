@@ -5,10 +5,11 @@ ghost use Rattle.msl_io.specs.Lines.{most_lines};
 ghost use Rattle.msl_io.specs.Reader.{MayGoOn};
 ghost use Rattle.msl_program.specs.Calls.{atomic_outcome};
 ghost use Rattle.msl_program.specs.Data.{data_outcome};
+ghost use Rattle.msl_program.specs.ProgramPromise.{ProgramFits};
 ghost use Rattle.msl_run.specs.Causes.{Causes, count};
 ghost use Rattle.msl_run.specs.Headline.{RanTold, ends};
 ghost use Rattle.msl_run.specs.Statuses.{class_of, IsHandedOn};
-ghost use Rattle.msl_run.specs.Steps.{next_of, outcome_of, IsReady, IsReadyProgram, Takes, TakeCause, Stepped, StepCause, Flushed};
+ghost use Rattle.msl_run.specs.Steps.{next_of, outcome_of, IsReady, Takes, TakeCause, Stepped, StepCause, Flushed};
 
 use crate::status::Status;
 use crate::work::{Program, Work};
@@ -130,7 +131,7 @@ fn evaluate<K: Sink>(f: Muscle<'_>, xs: &[i64], out: &mut K) -> Step
 
 // Runs the data program at a record, and writes what it gives.
 fn execute<K: Sink>(alloc: Global, program: Program<'_>, xs: &[i64], out: &mut K) -> Step
-    requires ready { IsReadyProgram program }
+    requires { ProgramFits program.funs.now program.prog.now }
     ensures stepped { Stepped result (data_outcome program.entry.funs.now program.entry.prog.now 1 xs.now) (K.held out.old) (K.held out.new) }
     ensures cause { StepCause result (K.faults out.old) (K.faults out.new) }
 {

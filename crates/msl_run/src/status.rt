@@ -18,8 +18,7 @@ pub enum Status {
     /// The text is no script: the first test that fails, and the place in bytes at which the token begins that it
     /// names.
     Script(Kind, u32),
-    /// At `seq`, the script's main stage is neither `atomic` nor a data program of which no line makes a matrix or moves
-    /// numbers.
+    /// At `seq`, the script's main stage is neither `atomic` nor `data`.
     Unbuilt,
     /// The stream ended with this fault.
     Stream(Fault),

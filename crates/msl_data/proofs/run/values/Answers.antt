@@ -4,9 +4,9 @@ use Rattle.msl_data.specs.Tables.{meaning, values_of}
 use Rattle.msl_data.proofs.Lines.{at_halt, one_more, step_fits}
 use Rattle.msl_data.proofs.run.values.Goals as goal
 
-pub value-requires-clause-ready : goal.value-requires-clause-ready
-value-requires-clause-ready g c =
-    step_fits c.args.funs.now c.args.at.now.stage c.args.input.now c.args.lines.now c.loop-line.line-index (values_of c.loop-line.table) c.line-item.result c.loop-line-test.true c.line-item.is c.loop-line.invariant.so_far c.requires.fit
+pub value-requires : goal.value-requires
+value-requires g c =
+    step_fits c.args.funs.now c.args.at.now.stage c.args.input.now c.args.lines.now c.loop-line.line-index (values_of c.loop-line.table) c.line-item.result c.loop-line-test.true c.line-item.is c.loop-line.invariant.so_far c.requires
 
 pub returns-in_err-value-clause-values : goal.returns-in_err-value-clause-values
 returns-in_err-value-clause-values g c =

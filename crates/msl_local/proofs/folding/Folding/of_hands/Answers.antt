@@ -1,4 +1,4 @@
-use Rattle.std.proofs.Common.{rules, ◌≡◌, pos, slice_index_or, ap, ◌∙◌, arith, FitsSigned, to_z, of_z, subst}
+use Rattle.std.proofs.Common.{rules, ◌≡◌, pos, slice_index_or, ap, ◌∙◌, arith, FitsSigned, to_z, of_z}
 use Rattle.std.specs.Int.{w128}
 use Rattle.std.proofs.lemmas.Int.{to_z-of_z}
 use Rattle.msl_ops.specs.Meaning.{fold_of, settle}

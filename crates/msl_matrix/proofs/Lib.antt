@@ -1,0 +1,10 @@
+pub mod Cuts
+pub mod Folded
+pub mod Lines
+pub mod Placed
+pub mod Reading
+pub mod Rotated
+pub mod Seen
+pub mod Taken
+pub mod Turned
+pub mod Windows

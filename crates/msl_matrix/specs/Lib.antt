@@ -1,0 +1,4 @@
+pub mod Cells
+pub mod Grids
+pub mod Matrices
+pub mod Rotations
