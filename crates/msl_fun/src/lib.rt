@@ -27,3 +27,4 @@ pub use expr::{BinOp, Expr, Exprs};
 pub use fault::EvalFault;
 pub use funs::{Fun, Funs, Names};
 pub use muscle::{Muscle, Use};
+pub use scope::Scope;

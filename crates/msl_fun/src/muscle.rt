@@ -1,4 +1,4 @@
-ghost use Rattle.std.specs.Prelude.{◌≡◌, ◌+◌, ◌<◌, ◌≤◌, ◌++◌, length, take};
+ghost use Rattle.std.specs.Prelude.{◌≡◌, ◌+◌, ◌<◌, ◌≤◌, ◌++◌, length, take, OnOk};
 ghost use Rattle.msl_base.specs.declared.limits.TheConstants.{MOST_PARAMS, MOST_RESULTS};
 ghost use Rattle.msl_fun.specs.Meaning.{mean, params_of, results_of, Answers};
 ghost use Rattle.msl_fun.specs.Budget.{values_over};
@@ -58,6 +58,18 @@ impl Muscle<'_> {
         evaluate(self.known(), f.results.as_slice(), &mut scope, out)
     }
 
+    /// `eval` at the numbers in scope, a number for each parameter. They are there again at an `Ok`; at an `Err` what is
+    /// in scope is open.
+    pub fn eval_in(&self, scope: &mut Scope, out: &mut [i64]) -> Result<u64, EvalFault>
+        requires args { length scope.old ≡ params_of self.now.funs.now self.now.at }
+        requires out { length out.old ≡ results_of self.now.funs.now self.now.at }
+        ensures result { Answers (mean self.now.funs.now self.now.at scope.old) result out.new }
+        ensures scope { OnOk result (scope.new ≡ scope.old) }
+    {
+        let f = self.get();
+        evaluate(self.known(), f.results.as_slice(), scope, out)
+    }
+
     // The function, which meets the rules over those before it.
     fn get(&self) -> &Fun
         ensures found { IsFun self.now result.now }
@@ -109,7 +121,8 @@ fn evaluate(
     requires known { AreFuns known.now }
     requires results { AreEvaluable known.now (length scope.old) results.now }
     requires out { length out.old ≡ length results.now }
-    ensures { Answers (values_over known.now results.now scope.old) result out.new }
+    ensures result { Answers (values_over known.now results.now scope.old) result out.new }
+    ensures scope { OnOk result (scope.new ≡ scope.old) }
 {
     let mut spent = 0;
     for i in 0..results.len() {

@@ -4,7 +4,9 @@ ghost use Rattle.msl_base.specs.declared.limits.TheConstants.{MOST_NAMES};
 use msl_base::limits::MOST_NAMES;
 use std::marker::Model;
 
-// The values of the variables in scope.
+/// The numbers in scope at an evaluation, at most 32: the arguments, and behind them the variables. It is seen as their
+/// list, and takes no memory. Whoever evaluates again and again keeps one, since a new one costs the clearing of its
+/// places.
 #[derive(Drop)]
 pub struct Scope {
     values: [i64; MOST_NAMES],
@@ -23,6 +25,7 @@ impl Model for Scope {
 }
 
 impl Scope {
+    /// None is in scope.
     pub fn new() -> Scope
         ensures { result ≡ [] }
     {
@@ -32,6 +35,14 @@ impl Scope {
         }
     }
 
+    /// Takes all out of scope.
+    pub fn clear(&mut self)
+        ensures { self.new ≡ [] }
+    {
+        self.len = 0;
+    }
+
+    /// The number at a place.
     pub fn get(&self, at: u32) -> i64
         requires { at < length self.now }
         ensures { result ≡ slice_index_or self.now at (pos 0) }
@@ -39,6 +50,7 @@ impl Scope {
         self.values[at as usize]
     }
 
+    /// One number more, behind the others.
     pub fn push(&mut self, x: i64)
         requires { length self.old < MOST_NAMES }
         ensures { self.new ≡ self.old ++ x ∷ [] }
@@ -47,6 +59,7 @@ impl Scope {
         self.len += 1;
     }
 
+    /// These numbers, behind the others.
     pub fn extend(&mut self, xs: &[i64])
         requires { length self.old + length xs.now ≤ MOST_NAMES }
         ensures { self.new ≡ self.old ++ xs.now }
@@ -56,7 +69,7 @@ impl Scope {
         }
     }
 
-    // The last n go out of scope.
+    /// The last n go out of scope.
     pub fn leave(&mut self, n: usize)
         requires { n ≤ length self.old }
         ensures { self.new ≡ take (length self.old - n) self.old }

@@ -7,7 +7,7 @@
 //!   numbers lines from 1 and reads at most as many as it was told (`counts`, `lines`). After any answer but a record it
 //!   gives the same again and reads nothing (`again`). While it goes on it keeps at most 4,096 bytes (`kept`).
 //! - `write_rec` appends exactly the record's text, or a proper beginning of it where the sink counted a fault (`ok`,
-//!   `err`, `cause`, by `Text`); `write_text` does so with any bytes.
+//!   `err`, `cause`, by `Text`), and `RecWriter` does so again and again; `write_text` does so with any bytes.
 //! - `Piece` is a text of at most 320 bytes that takes no memory.
 //! - `laws` has worked examples of records and their text.
 //!
@@ -29,4 +29,4 @@ pub use msl_outside::{
     RealLibrary, RealSink, RealSource, Sink, Source, SteadySource, read_whole,
 };
 pub use piece::Piece;
-pub use write::{WriteFault, write_rec, write_text};
+pub use write::{RecWriter, WriteFault, write_rec, write_text};

@@ -12,18 +12,42 @@ use msl_outside::Sink;
 pub struct WriteFault;
 
 /// Writes a record's text: the numbers in decimal, one space between two, and LF. It takes no memory. At a fault the
-/// sink took a beginning of the text, and not all of it.
+/// sink took a beginning of the text, and not all of it. Whoever writes many records keeps a `RecWriter`.
 pub fn write_rec<K: Sink>(sink: &mut K, xs: &[i64]) -> Result<(), WriteFault>
     ensures ok { OnOk result (Appends (K.held sink.old) (K.held sink.new) (text_of xs.now)) }
     ensures err { OnErr result (AppendsPart (K.held sink.old) (K.held sink.new) (text_of xs.now)) }
     ensures cause { HasCause (K.faults sink.old) (K.faults sink.new) result }
 {
-    match xs {
-        [] => write_text(sink, b"\n"),
-        [x, others @ ..] => {
-            let mut piece = Piece::new();
-            piece.push_number(x);
-            write_others(sink, &mut piece, others)
+    RecWriter::new().write(sink, xs)
+}
+
+/// Writes records' texts as `write_rec` does, and keeps the piece in which a text is put together from record to record.
+#[derive(Drop)]
+pub struct RecWriter {
+    piece: Piece,
+}
+
+impl RecWriter {
+    /// Takes no memory.
+    pub fn new() -> RecWriter {
+        RecWriter {
+            piece: Piece::new(),
+        }
+    }
+
+    /// Writes a record's text.
+    pub fn write<K: Sink>(&mut self, sink: &mut K, xs: &[i64]) -> Result<(), WriteFault>
+        ensures ok { OnOk result (Appends (K.held sink.old) (K.held sink.new) (text_of xs.now)) }
+        ensures err { OnErr result (AppendsPart (K.held sink.old) (K.held sink.new) (text_of xs.now)) }
+        ensures cause { HasCause (K.faults sink.old) (K.faults sink.new) result }
+    {
+        match xs {
+            [] => write_text(sink, b"\n"),
+            [x, others @ ..] => {
+                self.piece.clear();
+                self.piece.push_number(x);
+                write_others(sink, &mut self.piece, others)
+            }
         }
     }
 }

@@ -1,16 +1,22 @@
 //! Which files a run asks for.
 
-use crate::fixture::{CHECK, SEQ, SQUARE, UNREAD, WORKING, run};
 use crate::rows::NO_COMMANDS;
+use msl_fixture::{CHECK, ROUNDS, SEQ, SQUARE, UNREAD, WORKING, run};
 use std::test::Fail;
+
+const UNBUILT: &str =
+    "muesli 1; fun f(x) = x; fun g(x, j) = x; divcon d { parts 2; cutoff 0; simple f; solve f; divide g; combine g; } main = divcon d on 2;";
 
 // Commands and scripts: one that runs, one that is refused and one that isn't built.
 const COMMANDS: &[(&[&str], &str)] = &[
     (SEQ, SQUARE),
+    (ROUNDS, SQUARE),
     (CHECK, SQUARE),
     (SEQ, "muesli 2;"),
+    (ROUNDS, "muesli 2;"),
     (CHECK, "muesli 2;"),
-    (SEQ, "muesli 1; fun f(x) = x; main = farm 2 { atomic f };"),
+    (SEQ, UNBUILT),
+    (ROUNDS, UNBUILT),
 ];
 
 #[test]

@@ -1,6 +1,6 @@
 //! What `check` writes.
 
-use crate::fixture::{CHECK, is_checked, is_refused};
+use msl_fixture::{CHECK, is_checked, is_refused};
 use std::test::Fail;
 
 // Scripts, and what is written of them.

@@ -1,7 +1,7 @@
-//! The scripts of the folder `examples`, what `check` makes of them, and for those that `seq` runs their records and
-//! results.
+//! The scripts of the folder `examples`, what `check` makes of them, and for those that `seq` and `rounds` run their
+//! records and results.
 
-use crate::fixture::{Row, is_checked, meet_rows};
+use msl_fixture::{Row, is_checked, meet_both};
 use std::test::Fail;
 
 const SQUARE: &str = "# The square of each record, which is one number.
@@ -155,11 +155,14 @@ const RUN: &[Row<'static>] = &[
         b"3 1 4 1 5 9 2 6\n-7 -9 -8\n\n5\n",
         b"0 2 0 3 0 0 7 3\n0 2 1\n\n0\n",
     ),
+    Row::Done(PAIRS, b"1\n2\n3\n", b"1 2\n3\n"),
+    Row::Done(FARM, b"3\n-4\n5\n", b"9\n16\n25\n"),
+    Row::Done(PIPE, b"2 3\n-1 4\n", b"5 11 10\n3 -1 -6\n"),
 ];
 
 #[test]
 fn examples_are_met(rt: HostRuntime) -> Result<(), Fail> {
-    meet_rows(&rt, rt.alloc(), RUN)
+    meet_both(&rt, rt.alloc(), RUN)
 }
 
 // Each script, and what `check` makes of it.

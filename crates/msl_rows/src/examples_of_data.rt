@@ -1,7 +1,7 @@
 //! The scripts of the folder `examples` that move numbers or make matrices, and one of counts, with their records and
 //! results and what `check` makes of them.
 
-use crate::fixture::{Row, is_checked, meet_rows};
+use msl_fixture::{Row, is_checked, meet_both};
 use std::test::Fail;
 
 const SKEW: &str =
@@ -89,7 +89,7 @@ const RUN: &[Row<'static>] = &[
 
 #[test]
 fn examples_are_met(rt: HostRuntime) -> Result<(), Fail> {
-    meet_rows(&rt, rt.alloc(), RUN)
+    meet_both(&rt, rt.alloc(), RUN)
 }
 
 // Each script, and what `check` makes of it.

@@ -1,6 +1,6 @@
 //! Sources, sinks and libraries that fail at one of their calls.
 
-use crate::fixture::{CHECK, Case, Outside, SEQ, SQUARE, WORKING, meet_over};
+use msl_fixture::{CHECK, Case, Outside, SEQ, SQUARE, WORKING, meet_over};
 use std::test::Fail;
 
 const SECOND_READ: Outside<'static> = Outside {

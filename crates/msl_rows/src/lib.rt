@@ -1,5 +1,5 @@
 //! Tests of the whole program, as tables over `muesli_plain` with objects in memory: what is written, the message, the
-//! status, and that nothing was read where nothing is run.
+//! status, and that nothing was read where nothing is run. Pipes, farms and filters are in `msl_rounds_rows`.
 //!
 //! - `rows`, `scripts`: commands, scripts of functions, inputs and what comes of them. `examples`,
 //!   `examples_of_data`: the scripts of the folder `examples`, with their records and results, and what `check` makes of
@@ -10,7 +10,7 @@
 //! - `programs`: data programs, their faults, and that neither blocks nor members change what they give. `moves`,
 //!   `matrices`: the same of those that move numbers and blocks, and of those with matrices.
 //! - `refusals`, `limits`, `unbuilt`: texts that are no script, scripts, lines and records at the limits and one above,
-//!   and main stages that `seq` doesn't run.
+//!   and main stages that nothing runs.
 //! - `checks`: what `check` writes, and that it refuses what `seq` refuses.
 #![tactic(auto)]
 
@@ -24,8 +24,6 @@ mod examples;
 mod examples_of_data;
 #[cfg(test)]
 mod faults;
-#[cfg(test)]
-mod fixture;
 #[cfg(test)]
 mod limits;
 #[cfg(test)]

@@ -1,8 +1,7 @@
 //! Data programs of matrices.
 
-use crate::fixture::{Row, meet_row, meet_rows};
+use msl_fixture::{Row, meet_row, meet_rows};
 use std::alloc::Global;
-use std::process::Abort;
 use std::test::Fail;
 use std::thread::Threads;
 

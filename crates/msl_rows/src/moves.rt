@@ -1,8 +1,7 @@
 //! Data programs that move the numbers or the blocks of an array.
 
-use crate::fixture::{Row, meet_row, meet_rows};
+use msl_fixture::{Row, meet_row, meet_rows};
 use std::alloc::Global;
-use std::process::Abort;
 use std::test::Fail;
 use std::thread::Threads;
 
@@ -142,7 +141,7 @@ const PARTS: &[(u32, &str, &[u8], &[u8])] = &[
 
 // The members leave what the lines give.
 fn is_given(
-    rt: &(impl Abort + Threads + Sync),
+    rt: &(impl Threads + Sync),
     alloc: Global,
     blocks: u32,
     lines: &str,

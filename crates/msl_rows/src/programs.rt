@@ -1,8 +1,7 @@
 //! Data programs: what comes of them, whatever the blocks and the members.
 
-use crate::fixture::{Row, meet_row, meet_rows};
+use msl_fixture::{Row, meet_row, meet_rows};
 use std::alloc::{AllocError, Global};
-use std::process::Abort;
 use std::test::Fail;
 use std::thread::Threads;
 
@@ -294,7 +293,7 @@ fn records(alloc: Global, first: i64, by: i64) -> Result<String, AllocError> {
 
 // In any blocks and by any members the lines give this for the numbers 5, 4, 3 and so on of each length.
 fn is_given(
-    rt: &(impl Abort + Threads + Sync),
+    rt: &(impl Threads + Sync),
     alloc: Global,
     lines: &str,
     out: &[u8],

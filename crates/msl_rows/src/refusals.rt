@@ -1,11 +1,7 @@
 //! Texts that are no script: why, and at which place. What else is refused is tested where scripts are read.
 
-use crate::fixture::{Row, SEQ, is_refused, meet_rows};
+use msl_fixture::{KNOWN, Row, SEQ, is_refused, meet_rows};
 use std::test::Fail;
-
-/// The beginning of a script: functions, a filter `p`, a division `q` and a search `r`.
-pub const KNOWN: &str =
-    "muesli 1; fun a(s) = s; fun b(s, x) = x; fun c(s, x, k) = x; fun t(s, x) = [s, x]; filter p { state 0; count b; item c; next b; flush a; last b; } divcon q { parts 2; cutoff 0; simple a; solve a; divide b; combine b; } bnb r { bound a; solved a; value a; count a; branch b; } ";
 
 // The script of a square, changed or cut, and another.
 const WORKED: &[Row<'static>] = &[
@@ -98,7 +94,7 @@ const TEXTS: &[(&str, &str)] = &[
         "main = pipe { farm 2 { pipe { farm 2 { ^farm 65 { atomic a } } } } };",
         "deep",
     ),
-    // A main stage that isn't built is still read to its end.
+    // A farm's stage is read to its end.
     ("main = farm 2 { atomic a };^;", "expected"),
     ("fun f(x) = ^y; main = farm 2 { atomic f };", "unknown"),
 ];

@@ -1,6 +1,6 @@
 //! Commands, inputs and what comes of them, where nothing fails.
 
-use crate::fixture::{Case, Row, SQUARE, meet, meet_rows, not_run};
+use msl_fixture::{Case, Row, SQUARE, meet, meet_rows, not_run};
 use std::test::Fail;
 
 const ROWS: &[Row<'static>] = &[
@@ -64,7 +64,13 @@ pub const NO_COMMANDS: &[&[&str]] = &[
     &["seq"],
     &["seq", "-p"],
     &["seq", ""],
-    &["rounds", "script"],
+    &["rounds"],
+    &["rounds", ""],
+    &["rounds", "-"],
+    &["rounds", "-p"],
+    &["rounds", "-p", "2", "script"],
+    &["rounds", "script", "script"],
+    &["run", "script"],
     &["seq", "script", "script"],
     &["check"],
     &["check", "-"],

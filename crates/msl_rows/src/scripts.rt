@@ -1,6 +1,6 @@
 //! Scripts of functions: what is one, and what comes of it.
 
-use crate::fixture::{Row, meet_rows};
+use msl_fixture::{Row, meet_rows};
 use std::test::Fail;
 
 const TEXTS: &[Row<'static>] = &[
@@ -38,7 +38,11 @@ const TEXTS: &[Row<'static>] = &[
     Row::Refused("muesli 1;\nfun f(x) = x;\n^", "expected"),
     Row::Refused("muesli 1;\nfun f(x) = x;\nmain = atomic f\n^", "expected"),
     Row::Refused("muesli 1;\nfun f(x) = x;\nmain = ^f;\n", "expected"),
-    Row::Unbuilt("muesli 1;\nfun f(x) = x;\nmain = farm 2 { atomic f };\n"),
+    Row::Done(
+        "muesli 1;\nfun f(x) = x;\nmain = farm 2 { atomic f };\n",
+        b"3\n",
+        b"3\n",
+    ),
     Row::Done(
         "muesli 1;\nfun f(x) = x;\ndata d { a = array 1; give a; }\nmain = atomic f;\n",
         b"3\n",

@@ -1,20 +1,15 @@
-//! Scripts whose main stage `seq` doesn't run: all but a function and a data program.
+//! Scripts whose main stage holds a division or a search, which nothing runs.
 
-use crate::fixture::{Row, meet_row};
-use crate::refusals::KNOWN;
+use msl_fixture::{Case, KNOWN, ROUNDS, SEQ, meet, not_run};
 use std::alloc::Global;
-use std::process::Abort;
 use std::test::Fail;
 use std::thread::Threads;
-
-const SQUARE: &str = "fun sq(x) = x * x;\n";
 
 const PICK: &str =
     "fun cost(i) = if i == 0 then 3 else if i == 1 then 5 else if i == 2 then 4 else 7;\nfun gain(i) = if i == 0 then 2 else if i == 1 then 4 else if i == 2 then 3 else 6;\nfun low(i, c, g, r) = c;\nfun ok(i, c, g, r) = g >= r;\nfun kids(i, c, g, r) = if i == 4 then 0 else 2;\nfun step(i, c, g, r, k) = [i + 1, c + k * cost(i), g + k * gain(i), r];\nbnb pick { bound low; solved ok; value low; count kids; branch step; }\n";
 
 // Definitions and the main stage.
 const WORKED: &[(&str, &str)] = &[
-    (SQUARE, "farm 3 { atomic sq }"),
     (
         "fun tiny(a, b) = b - a <= 1;\nfun one(a, b) = if b - a == 1 then a else 0;\nfun half(a, b, j) = [if j == 0 then a else (a + b) / 2, if j == 0 then (a + b) / 2 else b];\nfun add(x, y) = x + y;\ndivcon range { parts 2; cutoff 3; simple tiny; solve one; divide half; combine add; }\n",
         "divcon range on 2",
@@ -24,39 +19,26 @@ const WORKED: &[(&str, &str)] = &[
         "fun low(x) = -x;\nfun ok(x) = x == 2;\nfun val(x) = 0;\nfun kids(x) = if x < 2 then 1 else 0;\nfun step(x, k) = x + 1;\nbnb bad { bound low; solved ok; value val; count kids; branch step; }\n",
         "bnb bad on 1",
     ),
-    (
-        "fun cnt(h, v, x) = h;\nfun both(h, v, x, k) = [v, x];\nfun turn(h, v, x) = [1 - h, x];\nfun rest(h, v) = h;\nfun held(h, v, k) = v;\nfilter pairs { state 0, 0; count cnt; item both; next turn; flush rest; last held; }\n",
-        "filter pairs",
-    ),
-    (
-        "fun dev(s, x) = 4 * x - s;\ndata d { a = array 2; s = fold sum a; b = map dev(s) a; give b; }\n",
-        "farm 2 { data d on 2 }",
-    ),
-    (
-        SQUARE,
-        "pipe { atomic sq; atomic sq; atomic sq; atomic sq; atomic sq }",
-    ),
     (PICK, "farm 2 { bnb pick on 3 }"),
-    (
-        "data t { a = array 3; b = scan sum a; give b; }\n",
-        "pipe { data t on 2 }",
-    ),
-    (
-        "fun neg(i) = -i;\ndata t { a = matrix 4 4 grid 2 2 at 0; b = rotateRows neg a; give b; }\n",
-        "farm 1 { data t on 2 }",
-    ),
 ];
 
-// Definitions behind a head, and a main stage that isn't built.
+// Definitions behind a head, and a main stage that isn't built: by neither command.
 fn is_unbuilt(
-    rt: &(impl Abort + Threads + Sync),
+    rt: &(impl Threads + Sync),
     alloc: Global,
     head: &str,
     items: &str,
     main: &str,
 ) -> Result<(), Fail> {
     let script = format!(in alloc; "{head}{items}main = {main};\n")?;
-    meet_row(rt, alloc, Row::Unbuilt(script.as_str()))
+    for words in [SEQ, ROUNDS] {
+        let case = Case {
+            words,
+            ..not_run(script.as_str(), b"muesli: not built yet\n")
+        };
+        meet(rt, alloc, &case)?;
+    }
+    Ok(())
 }
 
 #[test]
@@ -67,13 +49,11 @@ fn worked_scripts(rt: HostRuntime) -> Result<(), Fail> {
     Ok(())
 }
 
-// The greatest stages, and the greatest numbers.
+// The greatest numbers, and the deepest stages.
 const GREAT: &[&str] = &[
-    "pipe { atomic a }",
-    "farm 64 { atomic t }",
     "divcon q on 64",
     "bnb r on 1",
-    "pipe { filter p; filter p; filter p; filter p }",
+    "pipe { filter p; divcon q on 1; filter p }",
     "pipe { farm 2 { pipe { farm 2 { atomic a } } }; farm 2 { farm 2 { farm 2 { bnb r on 64 } } } }",
 ];
 

@@ -1,4 +1,3 @@
 pub mod Endings
-pub mod Progress
 pub mod Scripts
 pub mod Texts

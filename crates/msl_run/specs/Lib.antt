@@ -1,6 +1,6 @@
 pub mod Causes
 pub mod Headline
 pub mod Messages
+pub mod Scripts
 pub mod Statuses
-pub mod Steps
 pub mod TopCall

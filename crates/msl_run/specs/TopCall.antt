@@ -2,24 +2,24 @@
 use Rattle.std.specs.Prelude.{ℕ, ◌≡◌, ◌≤◌, nat_le, length, ◌⊎◌, ◌==◌, ◌++◌, decimal, not, Bool, if◌then◌else◌, false, List, [], ◌∷◌, codes, Option, Some, None, Result, Ok, Err, MatchBool, ⊤}
 use Rattle.std.specs.Str.{bytes_eq}
 use Rattle.std.specs.Io.KnownBytes.{Appends}
+use Rattle.msl_base.specs.Streams.{Stream}
+use Rattle.msl_base.specs.declared.limits.TheConstants.{MOST_SCRIPT_BYTES}
 use Rattle.msl_io.specs.Fetching.{FileIs}
 use Rattle.msl_io.specs.Text.{AppendsFront}
 use Rattle.msl_lex.specs.Printing.{text_of}
 use Rattle.msl_read.specs.Reading.{Refusal}
-use Rattle.msl_run.specs.Headline.{Ends, RanTold}
 use Rattle.msl_program.specs.Script.{Script}
-use Rattle.msl_program.specs.declared.stage.Stage.{Stage}
-use Rattle.msl_program.specs.declared.stage.Stage.TheVariants.{Atomic, Filter, Data, DivCon, Bnb, Pipe'}
-use Rattle.msl_program.specs.Stages.{farm}
 use Rattle.msl_program.specs.Need.{need}
-use Rattle.msl_program.specs.Runs.{SeqRuns}
+use Rattle.msl_program.specs.Runs.{RunsMain, SeqRuns}
 use Rattle.msl_grammar.specs.ScriptGrammar.{ReadsAs, ReadsTo}
 use Rattle.msl_script_print.specs.ScriptText.{script_bits}
-use Rattle.msl_base.specs.declared.limits.TheConstants.{MOST_SCRIPT_BYTES}
+use Rattle.msl_line.specs.Built.{IsBuilt}
+use Rattle.msl_stage.specs.Endings.{Ends}
+use Rattle.msl_run.specs.Headline.{RanTold}
 use Rattle.msl_run.specs.declared.words.Command.{Command}
-use Rattle.msl_run.specs.declared.words.Command.TheVariants.{Seq, Check}
+use Rattle.msl_run.specs.declared.words.Command.TheVariants.{Seq, Rounds, Check}
 use Rattle.msl_run.specs.declared.status.Status.{Status}
-use Rattle.msl_run.specs.declared.status.Status.TheVariants.{Done, Usage, Library, ScriptLong, Script as Refused, Unbuilt, Stream, Read, Write, Memory}
+use Rattle.msl_run.specs.declared.status.Status.TheVariants.{Done, Usage, Library, ScriptLong, Script as Refused, Unbuilt, Stream as Faulted, Read, Write, Memory}
 
 -- ---- the words
 
@@ -30,7 +30,11 @@ is_operand (c ∷ cs) = not (c == 45)
 
 -- the command that a word is, on a file
 abbrev pub command_on : List ℕ → List ℕ → Option Command
-command_on word file = if bytes_eq word (codes "seq") then Some (Seq file) else if bytes_eq word (codes "check") then Some (Check file) else None
+command_on word file =
+    if bytes_eq word (codes "seq") then Some (Seq file)
+    else if bytes_eq word (codes "rounds") then Some (Rounds file)
+    else if bytes_eq word (codes "check") then Some (Check file)
+    else None
 
 -- the command that the words are
 abbrev pub command : List (List ℕ) → Option Command
@@ -43,23 +47,10 @@ command _ = None
 abbrev pub IsUntouched : Ends → Type 0
 IsUntouched e = (e.left_now ≡ e.left) × (e.held_now ≡ e.held)
 
--- a stage that `seq` runs: at each record a function or a data program
-abbrev pub IsBuiltStage : Stage → Type 0
-IsBuiltStage (Atomic f) = ⊤
-IsBuiltStage (Data i on) = ⊤
-IsBuiltStage (Filter i) = ⊥
-IsBuiltStage (DivCon i on) = ⊥
-IsBuiltStage (Bnb i on) = ⊥
-IsBuiltStage (farm workers stage) = ⊥
-IsBuiltStage (Pipe' _ stages) = ⊥
-
--- `seq` runs the script
-abbrev pub IsBuilt : Script → Type 0
-IsBuilt s = IsBuiltStage s.main
-
--- `seq` over a script: what its run left behind, where it is built
-abbrev pub Runs : Script → Ends → Status → Type 0
-Runs s e status = (IsBuilt s × RanTold (SeqRuns s) e status) ⊎ ((IsBuilt s → ⊥) × (status ≡ Unbuilt) × IsUntouched e)
+-- A run of a script: what it left behind, where its main stage holds no division and no search. `means` relates the
+-- script to what it may make of a stream.
+abbrev pub Runs : (Script → Stream → Stream → Type 0) → Script → Ends → Status → Type 0
+Runs means s e status = (IsBuilt s.main × RanTold (means s) e status) ⊎ ((IsBuilt s.main → ⊥) × (status ≡ Unbuilt) × IsUntouched e)
 
 -- what `check` writes of a script: its canonical text, and how many processes it needs
 abbrev pub check_text : Script → List ℕ
@@ -75,7 +66,7 @@ Wrote s held now Library = ⊥
 Wrote s held now ScriptLong = ⊥
 Wrote s held now (Refused kind at) = ⊥
 Wrote s held now Unbuilt = ⊥
-Wrote s held now (Stream f) = ⊥
+Wrote s held now (Faulted f) = ⊥
 Wrote s held now Read = ⊥
 
 -- `check` over a script: nothing is read
@@ -110,12 +101,14 @@ OfFile says file e status = GaveUp e status ⊎ ((text : List ℕ) × FileIs fil
 abbrev pub IsCheck : Option Command → Type 0
 IsCheck (Some (Check name)) = ⊤
 IsCheck (Some (Seq name)) = ⊥
+IsCheck (Some (Rounds name)) = ⊥
 IsCheck None = ⊥
 
 -- what is said of the command that the words are; there is none exactly at Usage
 abbrev pub OfCommand : Option Command → (List ℕ → Option (List ℕ)) → Ends → Status → Type 0
 OfCommand None file e status = (status ≡ Usage) × IsUntouched e
-OfCommand (Some (Seq name)) file e status = OfFile Runs (file name) e status
+OfCommand (Some (Seq name)) file e status = OfFile (Runs SeqRuns) (file name) e status
+OfCommand (Some (Rounds name)) file e status = OfFile (Runs RunsMain) (file name) e status
 OfCommand (Some (Check name)) file e status = OfFile Checks (file name) e status
 
 -- no file was asked for but this, and that at most once
@@ -126,10 +119,19 @@ IsAsked name before now = (now ≡ before) ⊎ (now ≡ before ++ name ∷ [])
 abbrev pub AsksFor : Option Command → List (List ℕ) → List (List ℕ) → Type 0
 AsksFor None before now = now ≡ before
 AsksFor (Some (Seq name)) before now = IsAsked name before now
+AsksFor (Some (Rounds name)) before now = IsAsked name before now
 AsksFor (Some (Check name)) before now = IsAsked name before now
 
--- the command is on a file that is told, is not too long and reads as a script; to run it has to be built
+-- a file that is told, is not too long and reads as a script
+abbrev pub HasScript : Option (List ℕ) → (Script → Type 0) → Type 0
+HasScript file P = (text : List ℕ) × (s : Script) × (file ≡ Some text) × (length text ≤ MOST_SCRIPT_BYTES) × ReadsAs text s × P s
+
+abbrev pub CanRun : Script → Type 0
+CanRun s = IsBuilt s.main
+
+-- the command is on such a file; to run it has to be built
 abbrev pub IsRunnable : Option Command → (List ℕ → Option (List ℕ)) → Type 0
 IsRunnable None file = ⊥
-IsRunnable (Some (Seq name)) file = (text : List ℕ) × (s : Script) × (file name ≡ Some text) × (length text ≤ MOST_SCRIPT_BYTES) × ReadsAs text s × IsBuilt s
-IsRunnable (Some (Check name)) file = (text : List ℕ) × (s : Script) × (file name ≡ Some text) × (length text ≤ MOST_SCRIPT_BYTES) × ReadsAs text s
+IsRunnable (Some (Seq name)) file = HasScript (file name) CanRun
+IsRunnable (Some (Rounds name)) file = HasScript (file name) CanRun
+IsRunnable (Some (Check name)) file = HasScript (file name) (λ s. Unit {0})

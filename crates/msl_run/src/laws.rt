@@ -1,7 +1,7 @@
 //! What follows from the contract of the top call, each law the contract of a function that makes one call of it.
 
 ghost use Rattle.msl_run.specs.Causes.{count, Rises};
-ghost use Rattle.msl_run.specs.Statuses.{class_of, IsComplete};
+ghost use Rattle.msl_run.specs.Statuses.{IsComplete};
 ghost use Rattle.msl_run.specs.TopCall.{command, IsRunnable};
 
 use crate::{Status, Words, muesli_plain};
@@ -21,7 +21,7 @@ pub fn steady_source<R: Threads + Sync, L: Library, K: Sink, E: Sink>(
     err: &mut E,
 ) -> Status
     requires { IsRunnable (command words.now) (L.file lib.old) }
-    ensures { (Rises (count (L.faults lib.old) (L.faults lib.new)) → ⊥) → (Rises (count (K.faults out.old) (K.faults out.new)) → ⊥) → IsComplete (class_of result) }
+    ensures { (Rises (count (L.faults lib.old) (L.faults lib.new)) → ⊥) → (Rises (count (K.faults out.old) (K.faults out.new)) → ⊥) → IsComplete result }
 {
     muesli_plain(rt, alloc, words, lib, src, out, err)
 }

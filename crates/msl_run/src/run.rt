@@ -1,39 +1,38 @@
 ghost use Rattle.std.specs.Prelude.{◌≡◌, ◌≤◌, ℕ, List, IfErr, IfOk, Option, length};
-ghost use Rattle.msl_base.specs.Streams.{pointwise};
-ghost use Rattle.msl_base.specs.declared.limits.TheConstants.{MOST_MEMBERS, MOST_SCRIPT_BYTES};
+ghost use Rattle.std.specs.Io.KnownBytes.{Keeps};
+ghost use Rattle.msl_base.specs.declared.limits.TheConstants.{MOST_SCRIPT_BYTES};
 ghost use Rattle.msl_io.specs.Known.{Told};
-ghost use Rattle.msl_program.specs.Data.{data_outcome};
-ghost use Rattle.msl_program.specs.ProgramPromise.{ProgramFits};
+ghost use Rattle.msl_line.specs.Lines.{Means};
+ghost use Rattle.msl_stage.specs.Endings.{ends};
 ghost use Rattle.msl_run.specs.Causes.{count, Causes, Rises};
-ghost use Rattle.msl_run.specs.Headline.{ends, RanTold};
 ghost use Rattle.msl_run.specs.Messages.{Tells};
-ghost use Rattle.msl_run.specs.Statuses.{class_of, IsRefusal, IsComplete, IsHandedOn};
-ghost use Rattle.msl_run.specs.Steps.{IsScriptIn, IsScriptOf, Declines};
+ghost use Rattle.msl_run.specs.Scripts.{IsScriptIn, IsScriptOf, Declines};
+ghost use Rattle.msl_run.specs.Statuses.{Flushed, IsRefusal, IsComplete, IsHandedOn};
 ghost use Rattle.msl_run.specs.TopCall.{command, check_text, AsksFor, Checks, IsAsked, IsCheck, IsRunnable, OfCommand, OfFile, Runs, Wrote};
 
 use crate::message::tell;
-use crate::sequence::{flushed, run_records};
 use crate::status::Status;
 use crate::words::{Command, Words, WordsFault, command_of};
-use crate::work::{Program, Work};
 use msl_base::NoMemory;
 use msl_base::limits::MOST_SCRIPT_BYTES;
-use msl_fun::Funs;
-use msl_group::Group;
 use msl_io::{Fetched, Library, Piece, Sink, Source, WriteFault, write_text};
-use msl_program::DataProg;
-use msl_script::{Script, ScriptFault, Stage, need, print_script, read_script};
+use msl_line::{How, is_built, line_of};
+use msl_script::{Script, ScriptFault, need, print_script, read_script};
+use msl_stage::run_rounds;
 use std::alloc::Global;
 use std::thread::Threads;
 
-/// Runs the command that the words are: fetches its script from `lib`; at `seq` reads records from `src` and writes
-/// results to `out`, at `check` reads nothing and writes the canonical text and the line with the need. It flushes
+/// Runs the command that the words are: fetches its script from `lib`; at `seq` and `rounds` reads records from `src` and
+/// writes results to `out`, at `check` reads nothing and writes the canonical text and the line with the need. It flushes
 /// `out`, and writes the message of the answer to `err`, unless it is `Done`. It always returns, and uses threads only
-/// to wait for what they were given.
+/// to wait for what they were given, at `rounds` alone.
+///
+/// `seq` makes of the stream what `SeqRuns` says, with the results in the order of the input; `rounds` what `RunsMain`
+/// says, which leaves the order of a farm's results open.
 ///
 /// `Usage` comes exactly where the words are no command. Of the script's file, `ScriptLong` comes where it has more than
 /// 1,048,576 bytes, else `Script` where it is no script, with the first test that fails and its place, else, at `seq`
-/// alone, `Unbuilt` where its main stage is neither `atomic` nor `data`: there nothing else comes but `Library` and
+/// and `rounds`, `Unbuilt` where its main stage holds a division or a search: there nothing else comes but `Library` and
 /// `Memory`, and none of the three comes anywhere else. `Library`, `Read` and `Write` come only where the object counted a
 /// fault in this call, and `Memory` where memory ran out, which no clause says. No fault is passed over: a count rises at
 /// these alone.
@@ -51,12 +50,12 @@ pub fn muesli_plain<R: Threads + Sync, L: Library, S: Source, K: Sink, E: Sink>(
     err: &mut E,
 ) -> Status
     ensures ran { OfCommand (command words.now) (L.file lib.old) (ends (S.left src.old) (S.left src.new) (K.held out.old) (K.held out.new)) result }
-    ensures flushed { IsHandedOn (class_of result) (K.flushed out.new) (K.held out.new) }
-    ensures untouched { IsRefusal (class_of result) → (src.new ≡ src.old) × (out.new ≡ out.old) }
+    ensures flushed { IsHandedOn result (K.flushed out.new) (K.held out.new) }
+    ensures untouched { IsRefusal result → (src.new ≡ src.old) × (out.new ≡ out.old) }
     ensures unread { IsCheck (command words.now) → src.new ≡ src.old }
     ensures asked { Told (L.asked lib.old) (L.asked lib.new) (AsksFor (command words.now)) }
     ensures cause { Causes result (count (L.faults lib.old) (L.faults lib.new)) (count (S.faults src.old) (S.faults src.new)) (count (K.faults out.old) (K.faults out.new)) }
-    ensures complete { IsRunnable (command words.now) (L.file lib.old) → (Rises (count (L.faults lib.old) (L.faults lib.new)) → ⊥) → (Rises (count (S.faults src.old) (S.faults src.new)) → ⊥) → (Rises (count (K.faults out.old) (K.faults out.new)) → ⊥) → IsComplete (class_of result) }
+    ensures complete { IsRunnable (command words.now) (L.file lib.old) → (Rises (count (L.faults lib.old) (L.faults lib.new)) → ⊥) → (Rises (count (S.faults src.old) (S.faults src.new)) → ⊥) → (Rises (count (K.faults out.old) (K.faults out.new)) → ⊥) → IsComplete result }
     ensures message { Tells result (E.held err.old) (E.held err.new) (E.flushed err.new) (count (E.faults err.old) (E.faults err.new)) }
 {
     let status = run_words(rt, alloc, words, lib, src, out);
@@ -65,8 +64,8 @@ pub fn muesli_plain<R: Threads + Sync, L: Library, S: Source, K: Sink, E: Sink>(
 }
 
 // Runs the command that the words are.
-fn run_words<R: Threads + Sync, L: Library, S: Source, K: Sink>(
-    rt: &R,
+fn run_words<'r, R: Threads + Sync, L: Library, S: Source, K: Sink>(
+    rt: &'r R,
     alloc: Global,
     words: &Words,
     lib: &mut L,
@@ -74,14 +73,20 @@ fn run_words<R: Threads + Sync, L: Library, S: Source, K: Sink>(
     out: &mut K,
 ) -> Status
     ensures ran { OfCommand (command words.now) (L.file lib.old) (ends (S.left src.old) (S.left src.new) (K.held out.old) (K.held out.new)) result }
-    ensures flushed { IsHandedOn (class_of result) (K.flushed out.new) (K.held out.new) }
-    ensures untouched { IsRefusal (class_of result) → (src.new ≡ src.old) × (out.new ≡ out.old) }
+    ensures flushed { IsHandedOn result (K.flushed out.new) (K.held out.new) }
+    ensures untouched { IsRefusal result → (src.new ≡ src.old) × (out.new ≡ out.old) }
     ensures unread { IsCheck (command words.now) → src.new ≡ src.old }
     ensures asked { Told (L.asked lib.old) (L.asked lib.new) (AsksFor (command words.now)) }
     ensures cause { Causes result (count (L.faults lib.old) (L.faults lib.new)) (count (S.faults src.old) (S.faults src.new)) (count (K.faults out.old) (K.faults out.new)) }
 {
     match command_of(alloc, words) {
-        Ok(Command::Seq(file)) => run_file(rt, alloc, file.as_str(), lib, src, out),
+        Ok(Command::Seq(file)) => {
+            let how: How<'r, R> = How::InTurn;
+            run_file(alloc, file.as_str(), how, lib, src, out)
+        }
+        Ok(Command::Rounds(file)) => {
+            run_file(alloc, file.as_str(), How::Beside(rt), lib, src, out)
+        }
         Ok(Command::Check(file)) => check_file(alloc, file.as_str(), lib, out),
         Err(WordsFault::Usage) => Status::Usage,
         Err(WordsFault::NoMemory) => Status::Memory,
@@ -90,84 +95,53 @@ fn run_words<R: Threads + Sync, L: Library, S: Source, K: Sink>(
 
 // Runs the script of a file.
 fn run_file<R: Threads + Sync, L: Library, S: Source, K: Sink>(
-    rt: &R,
     alloc: Global,
     name: &str,
+    how: How<'_, R>,
     lib: &mut L,
     src: &mut S,
     out: &mut K,
 ) -> Status
-    ensures ran { OfFile Runs (L.file lib.old name.now) (ends (S.left src.old) (S.left src.new) (K.held out.old) (K.held out.new)) result }
+    ensures ran { OfFile (Runs (Means how.entry)) (L.file lib.old name.now) (ends (S.left src.old) (S.left src.new) (K.held out.old) (K.held out.new)) result }
     ensures asked { Told (L.asked lib.old) (L.asked lib.new) (IsAsked name.now) }
-    ensures flushed { IsHandedOn (class_of result) (K.flushed out.new) (K.held out.new) }
-    ensures untouched { IsRefusal (class_of result) → (src.new ≡ src.old) × (out.new ≡ out.old) }
+    ensures flushed { IsHandedOn result (K.flushed out.new) (K.held out.new) }
+    ensures untouched { IsRefusal result → (src.new ≡ src.old) × (out.new ≡ out.old) }
     ensures cause { Causes result (count (L.faults lib.old) (L.faults lib.new)) (count (S.faults src.old) (S.faults src.new)) (count (K.faults out.old) (K.faults out.new)) }
 {
     match script_of(alloc, name, lib) {
-        Ok(script) => run_script(rt, alloc, &script, src, out),
+        Ok(script) => run_script(alloc, &script, how, src, out),
         Err(status) => status,
     }
 }
 
 // Runs a script.
 fn run_script<R: Threads + Sync, S: Source, K: Sink>(
-    rt: &R,
     alloc: Global,
     script: &Script,
+    how: How<'_, R>,
     src: &mut S,
     out: &mut K,
 ) -> Status
-    ensures ran { Runs script.now (ends (S.left src.old) (S.left src.new) (K.held out.old) (K.held out.new)) result }
-    ensures flushed { IsHandedOn (class_of result) (K.flushed out.new) (K.held out.new) }
-    ensures untouched { IsRefusal (class_of result) → (src.new ≡ src.old) × (out.new ≡ out.old) }
+    ensures ran { Runs (Means how.entry) script.now (ends (S.left src.old) (S.left src.new) (K.held out.old) (K.held out.new)) result }
+    ensures flushed { IsHandedOn result (K.flushed out.new) (K.held out.new) }
+    ensures untouched { IsRefusal result → (src.new ≡ src.old) × (out.new ≡ out.old) }
     ensures cause { Causes result (count 0 0) (count (S.faults src.old) (S.faults src.new)) (count (K.faults out.old) (K.faults out.new)) }
 {
-    match script.main() {
-        Stage::Atomic(f) => {
-            let f = script.funs().muscle(*f);
-            run_records(alloc, Work::Atomic(f), src, out)
-        }
-        Stage::Data(at, members) => {
-            let prog = &script.datas().as_slice()[*at as usize];
-            run_program(alloc, prog, script.funs(), *members, src, out)
-        }
-        _ => Status::Unbuilt,
+    if !is_built(script.main()) {
+        return Status::Unbuilt;
     }
-}
-
-// Runs a data program over the records of a source, by so many members.
-fn run_program<S: Source, K: Sink>(
-    alloc: Global,
-    prog: &DataProg,
-    funs: &Funs,
-    members: u32,
-    src: &mut S,
-    out: &mut K,
-) -> Status
-    requires fits { ProgramFits funs.now prog.now }
-    requires some { 1 ≤ members }
-    requires few { members ≤ MOST_MEMBERS }
-    ensures ran { RanTold (λ X Y. Y ≡ pointwise (data_outcome funs.now prog.now 1) X) (ends (S.left src.old) (S.left src.new) (K.held out.old) (K.held out.new)) result }
-    ensures flushed { IsHandedOn (class_of result) (K.flushed out.new) (K.held out.new) }
-    ensures cause { Causes result (count 0 0) (count (S.faults src.old) (S.faults src.new)) (count (K.faults out.old) (K.faults out.new)) }
-{
-    let group = Group::whole(members);
-    let program = Program {
-        prog,
-        funs,
-        group: &group,
+    let Ok(line) = line_of(alloc, script, how) else {
+        return Status::Memory;
     };
-    let status = run_records(alloc, Work::Data(program), src, out);
-    group.spend();
-    status
+    Status::of_end(run_rounds(alloc, script.funs(), line, src, out))
 }
 
 // Checks the script of a file.
 fn check_file<L: Library, K: Sink>(alloc: Global, name: &str, lib: &mut L, out: &mut K) -> Status
     ensures checked { (left : Option (List ℕ)) → OfFile Checks (L.file lib.old name.now) (ends left left (K.held out.old) (K.held out.new)) result }
     ensures asked { Told (L.asked lib.old) (L.asked lib.new) (IsAsked name.now) }
-    ensures flushed { IsHandedOn (class_of result) (K.flushed out.new) (K.held out.new) }
-    ensures untouched { IsRefusal (class_of result) → out.new ≡ out.old }
+    ensures flushed { IsHandedOn result (K.flushed out.new) (K.held out.new) }
+    ensures untouched { IsRefusal result → out.new ≡ out.old }
     ensures cause { Causes result (count (L.faults lib.old) (L.faults lib.new)) (count 0 0) (count (K.faults out.old) (K.faults out.new)) }
 {
     match script_of(alloc, name, lib) {
@@ -179,16 +153,28 @@ fn check_file<L: Library, K: Sink>(alloc: Global, name: &str, lib: &mut L, out: 
 // Writes what a check says of a script.
 fn check_script<K: Sink>(alloc: Global, script: &Script, out: &mut K) -> Status
     ensures wrote { Wrote script.now (K.held out.old) (K.held out.new) result }
-    ensures flushed { IsHandedOn (class_of result) (K.flushed out.new) (K.held out.new) }
-    ensures untouched { IsRefusal (class_of result) → out.new ≡ out.old }
+    ensures flushed { IsHandedOn result (K.flushed out.new) (K.held out.new) }
+    ensures untouched { IsRefusal result → out.new ≡ out.old }
     ensures cause { Causes result (count 0 0) (count 0 0) (count (K.faults out.old) (K.faults out.new)) }
 {
     let Ok(text) = check_text(alloc, script) else {
         return Status::Memory;
     };
     match write_text(out, text.as_slice()) {
-        Ok(()) => flushed(out, Status::Done),
+        Ok(()) => flushed(out),
         Err(WriteFault) => Status::Write,
+    }
+}
+
+// Flushes what was written.
+fn flushed<K: Sink>(out: &mut K) -> Status
+    ensures kept { Keeps (K.held out.old) (K.held out.new) }
+    ensures status { Flushed result (K.faults out.old) (K.faults out.new) }
+    ensures flushed { IsHandedOn result (K.flushed out.new) (K.held out.new) }
+{
+    match out.flush() {
+        Ok(()) => Status::Done,
+        Err(_) => Status::Write,
     }
 }
 

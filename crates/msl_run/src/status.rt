@@ -1,13 +1,15 @@
-ghost use Rattle.std.specs.Prelude.{◌≡◌};
+ghost use Rattle.std.specs.Prelude.{◌≡◌, Some};
+ghost use Rattle.msl_stage.specs.Endings.{IsEnding};
+ghost use Rattle.msl_run.specs.Headline.{end_of};
 ghost use Rattle.msl_run.specs.Statuses.{code_of};
 
-use msl_base::Fault;
+use msl_base::{End, Fault};
 use msl_lex::Kind;
 
 /// How a run of the program ended.
 #[derive(Clone, Copy)]
 pub enum Status {
-    /// At `seq` all records were read and all results written; at `check` all was written.
+    /// All records were read and all results written; at `check` all was written.
     Done,
     /// The words are no command.
     Usage,
@@ -18,7 +20,7 @@ pub enum Status {
     /// The text is no script: the first test that fails, and the place in bytes at which the token begins that it
     /// names.
     Script(Kind, u32),
-    /// At `seq`, the script's main stage is neither `atomic` nor `data`.
+    /// At `seq` and `rounds`, the script's main stage holds a division or a search.
     Unbuilt,
     /// The stream ended with this fault.
     Stream(Fault),
@@ -31,6 +33,21 @@ pub enum Status {
 }
 
 impl Status {
+    /// The status of a run that ended so. `Stopped` is excluded: no run of a script is given up from outside.
+    pub fn of_end(end: End) -> Status
+        requires { IsEnding end }
+        ensures { end_of result ≡ Some end }
+    {
+        match end {
+            End::Done => Status::Done,
+            End::Fault(fault) => Status::Stream(fault),
+            End::Read => Status::Read,
+            End::Write => Status::Write,
+            End::Memory => Status::Memory,
+            End::Stopped => unreachable!(),
+        }
+    }
+
     /// The exit status of the program: 0 where all is done, 1 after a fault of the stream, 2 where nothing was run
     /// since the words or the script are refused, 3 where the outside failed, 4 where memory ran out.
     pub fn code(&self) -> u8

@@ -1,7 +1,7 @@
-ghost use Rattle.std.specs.Prelude.{◌≡◌, MatchResult, Some, None, ◌↔◌, IsTrue};
+ghost use Rattle.std.specs.Prelude.{◌≡◌, MatchResult, Some, None, ◌↔◌};
 ghost use Rattle.msl_run.specs.TopCall.{command, command_on, is_operand};
 
-use msl_base::{ListOf, Name};
+use msl_base::{ListOf, Name, NoMemory};
 use std::alloc::Global;
 use thiserror::Error;
 
@@ -13,6 +13,8 @@ pub type Words = ListOf<Name>;
 pub enum Command {
     /// Run the script of this name in the order of its input.
     Seq(Name),
+    /// Run the script of this name with its results in any order that it leaves open.
+    Rounds(Name),
     /// Write the canonical text of the script of this name, and how many processes it needs.
     Check(Name),
 }
@@ -28,8 +30,19 @@ pub enum WordsFault {
     NoMemory,
 }
 
-/// The command that the words are. They are one where they are `seq` or `check` and a name that isn't empty and doesn't
-/// begin with `-`.
+impl From<NoMemory> for WordsFault {
+    ghost use Rattle.std.specs.Prelude.{◌≡◌};
+    ghost use Rattle.msl_run.specs.declared.words.WordsFault.TheVariants as fault;
+
+    ghost from_gives = { λ _ e. e ≡ fault.NoMemory };
+
+    fn from(_: NoMemory) -> Self {
+        WordsFault::NoMemory
+    }
+}
+
+/// The command that the words are. They are one where they are `seq`, `rounds` or `check` and a name that isn't empty and
+/// doesn't begin with `-`.
 ///
 /// # Errors
 ///
@@ -52,16 +65,11 @@ pub fn command_of(alloc: Global, words: &Words) -> Result<Command, WordsFault>
 fn command_on(alloc: Global, word: &str, file: &str) -> Result<Command, WordsFault>
     ensures ok { MatchResult result (λ c. command_on word.now file.now ≡ Some c) (λ e. (e ≡ WordsFault.Usage) ↔ (command_on word.now file.now ≡ None)) }
 {
-    if word != "seq" && word != "check" {
-        return Err(WordsFault::Usage);
-    }
-    let Ok(file) = Name::of(alloc, file) else {
-        return Err(WordsFault::NoMemory);
-    };
-    if word == "seq" {
-        Ok(Command::Seq(file))
-    } else {
-        Ok(Command::Check(file))
+    match word {
+        "seq" => Ok(Command::Seq(Name::of(alloc, file)?)),
+        "rounds" => Ok(Command::Rounds(Name::of(alloc, file)?)),
+        "check" => Ok(Command::Check(Name::of(alloc, file)?)),
+        _ => Err(WordsFault::Usage),
     }
 }
 

@@ -32,7 +32,7 @@ returns-in_err-out c =
     let same = ap (λ (xs : List ℤ). spend c.loop-i.spent (value_over known e xs)) c.loop-i.invariant.scope in
     let all = result_err known (take i c.loop-i.out) e (drop (i + 1) c.args.results.now) (drop i c.args.results.now) args c.loop-i.spent f split (c.in_err-out.ensures.value ∙ same) ∙ c.loop-i.invariant.spent in
     let out = err_from_is_err_and c.from_residual.result c.from_residual.ensures.1 in
-    rw (out.1, out.2) (answer_err (values_over known c.args.results.now args) f c.loop-i.out all)
+    rw (out.1, out.2) (record { result = answer_err (values_over known c.args.results.now args) f c.loop-i.out all; scope = tt })
 
 pub loop-i-preserved : goal.loop-i-preserved
 loop-i-preserved c =
@@ -64,7 +64,10 @@ returns c =
     let i = c.loop-i.i in
     let none = drop_of_length-le c.args.results.now c.loop-i-test.false in
     let all_out : take i c.loop-i.out ≡ c.loop-i.out = take_all i c.loop-i.out (omega (arith, c.loop-i.auto.out, c.requires.out, c.loop-i-test.false)) in
-    answer_ok (values_over known c.args.results.now args) c.loop-i.spent c.loop-i.out
-    (ap (λ (xs : List ℤ). Ok (xs, c.loop-i.spent)) (sym all_out)
-    ∙ all_there known (take i c.loop-i.out) (drop i c.args.results.now) args c.loop-i.spent c.loop-i.invariant.within none
-    ∙ c.loop-i.invariant.spent)
+    record {
+      result = answer_ok (values_over known c.args.results.now args) c.loop-i.spent c.loop-i.out
+          (ap (λ (xs : List ℤ). Ok (xs, c.loop-i.spent)) (sym all_out)
+          ∙ all_there known (take i c.loop-i.out) (drop i c.args.results.now) args c.loop-i.spent c.loop-i.invariant.within none
+          ∙ c.loop-i.invariant.spent);
+      scope = c.loop-i.invariant.scope;
+    }

@@ -1,5 +1,5 @@
 use Rattle.std.proofs.Common.{refl}
-use Rattle.msl_run.specs.Headline.{ends}
+use Rattle.msl_stage.specs.Endings.{ends}
 use Rattle.msl_run.specs.TopCall.{Checks}
 use Rattle.msl_run.proofs.Scripts.{with_script, without_script}
 use Rattle.msl_run.proofs.run.check_file.Goals as goal

@@ -1,5 +1,5 @@
 use Rattle.std.proofs.Common.{Option, Some, List, ℕ, ap, sym, subst, ◌∙◌}
-use Rattle.msl_run.specs.Headline.{ends}
+use Rattle.msl_stage.specs.Endings.{ends}
 use Rattle.msl_run.specs.TopCall.{Checks, OfCommand, OfFile}
 use Rattle.msl_run.specs.declared.words.Command.{Command}
 use Rattle.msl_run.proofs.run.run_words.Goals as goal

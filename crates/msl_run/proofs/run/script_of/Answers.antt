@@ -1,5 +1,5 @@
 use Rattle.std.proofs.Common.{subst}
-use Rattle.msl_run.specs.Steps.{IsScriptIn}
+use Rattle.msl_run.specs.Scripts.{IsScriptIn}
 use Rattle.msl_run.proofs.Scripts.{not_fetched, of_long}
 use Rattle.msl_run.proofs.run.script_of.Goals as goal
 

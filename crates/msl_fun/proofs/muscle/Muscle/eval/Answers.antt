@@ -21,4 +21,4 @@ returns c =
     let same = filled c.args.args.now c.new-scope.result c.extend.new.self c.new-scope.ensures c.extend.ensures in
     subst (λ (w : Counted (List ℤ)). Answers w c.evaluate.result c.evaluate.new.out)
     (means m.funs.now m.at c.get-f.result.now c.known.result.now c.as_slice.result.now c.known.ensures.list c.as_slice.ensures c.extend.new.self c.args.args.now c.get-f.ensures.found same)
-    c.evaluate.ensures
+    c.evaluate.ensures.result

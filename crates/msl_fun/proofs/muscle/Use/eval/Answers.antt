@@ -25,4 +25,4 @@ returns c =
     let same = joined extra c.args.args.now c.as_slice.result.now c.new-scope.result c.extend.new.self c.extend-2.new.self c.as_slice.ensures.numbers c.new-scope.ensures c.extend.ensures c.extend-2.ensures in
     subst (λ (w : Counted (List ℤ)). Answers w c.evaluate.result c.evaluate.new.out)
     (means m.funs.now m.at c.get-f.result.now c.known.result.now c.as_slice-2.result.now c.known.ensures.list c.as_slice-2.ensures c.extend-2.new.self (extra ++ c.args.args.now) c.get-f.ensures.found same)
-    c.evaluate.ensures
+    c.evaluate.ensures.result
