@@ -5,7 +5,7 @@
 set -u
 . "$(dirname "${BASH_SOURCE[0]}")/common.sh"
 # The commands that run a script over records.
-commands=(seq)
+commands=(seq rounds)
 # The message of each example whose run ends by a fault, with status 1. Any other ends with status 0 and no message.
 declare -A faults=([split]='muesli: stage 1: division by zero')
 cd "$top/examples" || exit 1

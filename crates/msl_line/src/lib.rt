@@ -11,6 +11,7 @@
 //! Who works on which record isn't said, nor with how many threads. `NoMemory` may come of any call that takes memory.
 #![tactic(auto)]
 
+mod desk;
 mod how;
 pub mod laws;
 mod line;

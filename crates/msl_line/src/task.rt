@@ -1,19 +1,19 @@
 ghost use Rattle.std.specs.Prelude.{◌≡◌};
 ghost use Rattle.msl_base.specs.declared.limits.TheConstants.{MOST_MEMBERS};
 ghost use Rattle.msl_line.specs.Duties.{DutyGives, function, program};
-ghost use Rattle.msl_program.specs.Calls.{atomic_outcome};
 ghost use Rattle.msl_program.specs.Data.{data_outcome};
 ghost use Rattle.msl_program.specs.ProgramPromise.{IsBetween, ProgramFits};
-ghost use Rattle.msl_stage.specs.Answers.{MayAnswer};
+ghost use Rattle.msl_stage.specs.Answers.{MayMake, made_by};
 
 use crate::How;
-use msl_base::{Answer, Fault, Halt, Rec};
+use crate::desk::Desk;
+use msl_base::{Halt, Rec};
 use msl_data::run_data;
 use msl_fabric::{Fabric, Joined, Moved, Place};
-use msl_fun::{Funs, Muscle, Scope};
+use msl_fun::{Funs, Muscle};
 use msl_group::Group;
-use msl_local::of_stage;
 use msl_program::DataProg;
+use msl_stage::Halted;
 use std::alloc::Global;
 use std::marker::Model;
 use std::thread::Threads;
@@ -81,75 +81,59 @@ impl<'a> Task<'a> {
         }
     }
 
-    /// Does it at a record. What is in scope before and afterwards is open.
+    /// Makes a record what it gives for it.
     #[inline(always)]
-    pub fn answer<R: Threads>(
+    pub fn work<R: Threads>(
         &self,
         alloc: Global,
         how: How<'_, R>,
-        scope: &mut Scope,
-        x: Rec,
-    ) -> Answer
-        ensures { MayAnswer (DutyGives self.now x.numbers) result }
+        desk: &mut Desk,
+        x: &mut Rec,
+        why: &mut Halt,
+    ) -> Result<(), Halted>
+        ensures { MayMake (DutyGives self.now x.old.numbers) x.new.numbers (made_by result why.new) }
     {
         match &self.work {
-            Work::Atomic(f) => evaluated(f, self.stage, scope, x),
-            Work::Data(p) => executed(alloc, p, self.stage, how, x.as_slice()),
+            Work::Atomic(f) => desk.evaluate(f, self.stage, x, why),
+            Work::Data(p) => execute(alloc, p, self.stage, how, x, why),
         }
     }
 }
 
-// The function at a record of its width, whose memory the results take where there is room.
-#[inline(always)]
-fn evaluated(f: &Muscle<'_>, stage: u32, scope: &mut Scope, x: Rec) -> Answer
-    ensures { MayAnswer (λ r. r ≡ atomic_outcome f.now.funs.now stage f.now.at x.numbers) result }
-{
-    let (params, results) = f.widths();
-    let mut numbers = x.into_vec();
-    if numbers.len() != params {
-        return Answer::Fault(Fault::Shape(stage, numbers.len() as u64, params as u64));
-    }
-    scope.clear();
-    scope.extend(numbers.as_slice());
-    if numbers.resize(results, 0).is_err() {
-        return Answer::NoMemory;
-    }
-    match f.eval_in(scope, numbers.as_mut_slice()) {
-        Ok(_) => Answer::Rec(Rec::from_vec(numbers)),
-        Err(fault) => Answer::Fault(of_stage(fault, stage)),
-    }
-}
-
-// What the data program gives for a record.
+// Makes a record what the data program gives for it.
 #[inline(never)]
-fn executed<R: Threads>(
+fn execute<R: Threads>(
     alloc: Global,
     p: &Program<'_>,
     stage: u32,
     how: How<'_, R>,
-    xs: &[i64],
-) -> Answer
+    x: &mut Rec,
+    why: &mut Halt,
+) -> Result<(), Halted>
     requires fits { ProgramFits p.now.funs.now p.now.prog.now }
     requires members { IsBetween 1 MOST_MEMBERS p.now.members }
-    ensures { MayAnswer (λ r. r ≡ data_outcome p.now.funs.now p.now.prog.now stage xs.now) result }
+    ensures { MayMake (λ r. r ≡ data_outcome p.now.funs.now p.now.prog.now stage x.old.numbers) x.new.numbers (made_by result why.new) }
 {
     match how {
-        How::InTurn => executed_over(alloc, p, stage, &mut Moved::new(), xs),
-        How::Beside(rt) => executed_over(alloc, p, stage, &mut Joined::new(rt, p.members), xs),
+        How::InTurn => execute_over(alloc, p, stage, &mut Moved::new(), x, why),
+        How::Beside(rt) => {
+            execute_over(alloc, p, stage, &mut Joined::new(rt, p.members), x, why)
+        }
     }
 }
 
 // The same over a fabric.
-fn executed_over<F: Fabric>(
+fn execute_over<F: Fabric>(
     alloc: Global,
     p: &Program<'_>,
     stage: u32,
     fabric: &mut F,
-    xs: &[i64],
-) -> Answer
+    x: &mut Rec,
+    why: &mut Halt,
+) -> Result<(), Halted>
     requires fits { ProgramFits p.now.funs.now p.now.prog.now }
     requires members { IsBetween 1 MOST_MEMBERS p.now.members }
-    ensures { MayAnswer (λ r. r ≡ data_outcome p.now.funs.now p.now.prog.now stage xs.now) result }
+    ensures { MayMake (λ r. r ≡ data_outcome p.now.funs.now p.now.prog.now stage x.old.numbers) x.new.numbers (made_by result why.new) }
 {
     let group = Group::whole(p.members);
     let mut at = Place {
@@ -157,11 +141,16 @@ fn executed_over<F: Fabric>(
         group: &group,
         fabric,
     };
-    let result = run_data(alloc, p.prog, p.funs, &mut at, xs);
+    let result = run_data(alloc, p.prog, p.funs, &mut at, x.as_slice());
     group.spend();
     match result {
-        Ok(ys) => Answer::Rec(ys),
-        Err(Halt::Fault(fault)) => Answer::Fault(fault),
-        Err(Halt::NoMemory) => Answer::NoMemory,
+        Ok(ys) => {
+            *x = ys;
+            Ok(())
+        }
+        Err(halt) => {
+            *why = halt;
+            Err(Halted)
+        }
     }
 }

@@ -1,12 +1,12 @@
 ghost use Rattle.std.specs.Prelude.{◌≡◌, ◌++◌, OnOk, [], ◌∷◌};
 ghost use Rattle.msl_line.specs.Duties.{Does};
-ghost use Rattle.msl_stage.specs.Answers.{MayAnswer};
+ghost use Rattle.msl_stage.specs.Answers.{MayMake, made_by};
 
 use crate::How;
+use crate::desk::Desk;
 use crate::task::Task;
-use msl_base::{Answer, NoMemory, Rec};
-use msl_fun::Scope;
-use msl_stage::OneToOne;
+use msl_base::{Halt, NoMemory, Rec};
+use msl_stage::{Halted, OneToOne};
 use std::alloc::Global;
 use std::marker::Model;
 use std::thread::Threads;
@@ -15,8 +15,7 @@ use std::thread::Threads;
 #[derive(Drop)]
 pub struct Worker<'a, R> {
     how: How<'a, R>,
-    // It lives from record to record, since a new one costs the clearing of its places.
-    scope: Scope,
+    desk: Desk,
     tasks: Vec<Task<'a>>,
 }
 
@@ -40,7 +39,7 @@ impl<'a, R> Worker<'a, R> {
     {
         Worker {
             how,
-            scope: Scope::new(),
+            desk: Desk::new(),
             tasks,
         }
     }
@@ -48,19 +47,17 @@ impl<'a, R> Worker<'a, R> {
 
 impl<'a, R: Threads> Worker<'a, R> {
     // By one task after the other, up to the first fault.
-    fn through(&mut self, alloc: Global, x: Rec) -> Answer
+    fn through(&mut self, alloc: Global, x: &mut Rec, why: &mut Halt) -> Result<(), Halted>
         ensures same { self.new ≡ self.old }
-        ensures answer { MayAnswer (Does self.old x.numbers) result }
+        ensures made { MayMake (Does self.old x.old.numbers) x.new.numbers (made_by result why.new) }
     {
-        let mut rec = x;
         for i in 0..self.tasks.len() {
-            match self.tasks[i].answer(alloc, self.how, &mut self.scope, rec) {
-                Answer::Rec(next) => rec = next,
-                Answer::Fault(fault) => return Answer::Fault(fault),
-                Answer::NoMemory => return Answer::NoMemory,
+            match self.tasks[i].work(alloc, self.how, &mut self.desk, x, why) {
+                Ok(()) => {}
+                Err(Halted) => return Err(Halted),
             }
         }
-        Answer::Rec(rec)
+        Ok(())
     }
 }
 
@@ -70,13 +67,13 @@ impl<'a, R: Threads> OneToOne for Worker<'a, R> {
 
     ghost one = { Does };
 
-    // Compiled into its caller, so that a record that one function makes isn't passed through memory.
+    // Compiled into its caller, as is what a record goes through for one function.
     #[inline(always)]
-    fn one(&mut self, alloc: Global, x: Rec) -> Answer {
+    fn work(&mut self, alloc: Global, x: &mut Rec, why: &mut Halt) -> Result<(), Halted> {
         if self.tasks.len() == 1 {
-            self.tasks[0].answer(alloc, self.how, &mut self.scope, x)
+            self.tasks[0].work(alloc, self.how, &mut self.desk, x, why)
         } else {
-            self.through(alloc, x)
+            self.through(alloc, x, why)
         }
     }
 

@@ -4,8 +4,6 @@ use Rattle.std.specs.Io.KnownBytes.{Appends, Keeps}
 use Rattle.std.proofs.KnownBytes.{Appends-kept, Appends-nil, Appends-trans}
 use Rattle.std.proofs.lemmas.List.{length-append, map-append}
 use Rattle.msl_base.specs.declared.fault.Fault.{Fault}
-use Rattle.msl_base.specs.declared.answer.Answer.{Answer}
-use Rattle.msl_base.specs.declared.answer.Answer.TheVariants as answer
 use Rattle.msl_base.specs.Records.{Kept}
 use Rattle.msl_base.specs.declared.answer.Halt.{Halt}
 use Rattle.msl_base.specs.declared.answer.Halt.TheVariants as halt
@@ -21,8 +19,8 @@ use Rattle.msl_stage.specs.declared.filter.FilterState.{FilterState}
 use Rattle.msl_stage.specs.declared.step.Step.{Step}
 use Rattle.msl_stage.specs.declared.step.Step.TheVariants.{Filter}
 use Rattle.msl_stage.specs.Lines.{StepRuns, LineRuns, IsStep, AreSteps}
-use Rattle.msl_stage.specs.Answers.{StepsTo, numbers_of, records_of}
-use Rattle.msl_stage.specs.Feeding.{GoesOn, StopsAt, IsCut, Fed, FeedCause, Feeds, Spreads}
+use Rattle.msl_stage.specs.Answers.{MayMake, StepsTo, numbers_of, records_of}
+use Rattle.msl_stage.specs.Feeding.{GoesOn, StopsAt, IsCut, Fed, Feeds, Spreads, end_of}
 use Rattle.msl_stage.proofs.Steps.{text-append, before-before, line_total, line_passes, step_total, then_goes, then_stops, then_begun, then_cut, stops_here, begun_none, filter_goes, filter_stops, goes_none, goes_more, stops_more, begun_more, cut_more}
 
 -- behind the last step there is none
@@ -171,34 +169,13 @@ module _ {O : Type 0} (one : O → Record → Outcome → Type 0) (total : (w : 
               ([], Appends-kept h h l [] (Appends-nil h) kept, begun_none (LineRuns one funs back) got (line_total one total funs back behind)),
         )
 
--- an error is the same whatever there would be else
-err_alike : (A B : Type 0) (R' R : Stream → Stream → Type 0) (got : List Record) (e : End) (h l : Option (List ℕ)) → Fed {A = A} R' R got (Err e) h l → Fed {A = B} R' R got (Err e) h l
-err_alike A B R' R got (ends.Fault f) h l fed = fed
-err_alike A B R' R got ends.Write h l fed = fed
-err_alike A B R' R got ends.Memory h l fed = fed
-err_alike A B R' R got ends.Done h l fed = fed
-err_alike A B R' R got ends.Read h l fed = fed
-err_alike A B R' R got ends.Stopped h l fed = fed
-
-pub cause_alike : (A B : Type 0) (e : End) (h l : ℕ) → FeedCause {A = A} (Err e) h l → FeedCause {A = B} (Err e) h l
-cause_alike A B (ends.Fault f) h l c = c
-cause_alike A B ends.Write h l c = c
-cause_alike A B ends.Memory h l c = c
-cause_alike A B ends.Done h l c = c
-cause_alike A B ends.Read h l c = c
-cause_alike A B ends.Stopped h l c = c
+    -- the step has no result
+    pub feeds_halts : (A B : Type 0) (may : Outcome → Type 0) (y : Record) (why : Halt) (e : End) (h l : Option (List ℕ)) → AreSteps one funs old → ((f : Fault) → may (Err f) → StopsAt (StepRuns one funs s) got [] f)
+        → MayMake {A = A} may y (Err why) → e ≡ end_of why → new ≡ mid → Keeps h l → Feeds one funs {A = B} old new at got (Err e) h l
+    feeds_halts A B may y (halt.Fault f) e h l are stops makes is same kept = feeds_stops B f (Err e) h l (stops f makes) (ap Err is) same kept
+    feeds_halts A B may y halt.NoMemory e h l are stops makes is same kept = feeds_starves B (Err e) h l are (ap Err is) same kept
 
 module _ {O : Type 0} (one : O → Record → Outcome → Type 0) (total : (w : O) (x : Record) → (r : Outcome) × one w x r) (funs : List Fun) where
-  pub feeds_alike : (A B : Type 0) (old new : List (Step O)) (at : ℕ) (got : List Record) (e : End) (r : Result B End) (h l : Option (List ℕ)) → r ≡ Err e
-      → Feeds one funs {A = A} old new at got (Err e) h l → Feeds one funs {A = B} old new at got r h l
-  feeds_alike A B old new at got e r h l is feeds front back split long =
-      let f = feeds front back split long in
-      (f.0, f.1, subst (λ (q : Result B End). Fed (LineRuns one funs f.0) (LineRuns one funs back) got q h l) (sym is) (err_alike A B (LineRuns one funs f.0) (LineRuns one funs back) got e h l f.2))
-
-  pub feeds_ok : (A B : Type 0) (old new : List (Step O)) (at : ℕ) (got : List Record) (a : A) (b : B) (h l : Option (List ℕ))
-      → Feeds one funs {A = A} old new at got (Ok a) h l → Feeds one funs {A = B} old new at got (Ok b) h l
-  feeds_ok A B old new at got a b h l feeds = feeds
-
   -- the filter with another state, whatever names its definition and its stage
   filter_moves : (f' f : FilterState) (x : Record) (ys : List Record) → f'.spec ≡ f.spec → f'.stage ≡ f.stage → stepped funs f.spec.now f.stage f.state x ≡ Ok (ys, f'.state)
       → GoesOn (StepRuns one funs (Filter f')) (StepRuns one funs (Filter f)) (x ∷ []) ys
@@ -276,10 +253,10 @@ module _ {O : Type 0} (one : O → Record → Outcome → Type 0) (total : (w : 
   module _ (old mid : List (Step O)) (at : ℕ) (outs taken left rest : List Kept) (rec : Kept) (h k : Option (List ℕ))
       (split : outs ≡ taken ++ left) (next : left ≡ rec ∷ rest) (so_far : Feeds one funs {A = Unit {0}} old mid at (records_of taken) (Ok (tt {0})) h k) where
     -- one more went through
-    pub outs_more : (new : List (Step O)) (l : Option (List ℕ)) (a : Kept) (r : Result Kept End) → r ≡ Ok a → Feeds one funs {A = Kept} mid new at (rec.numbers ∷ []) r k l
+    pub outs_more : (new : List (Step O)) (l : Option (List ℕ)) (a : Unit {0}) (r : Result (Unit {0}) End) → r ≡ Ok a → Feeds one funs {A = Unit {0}} mid new at (rec.numbers ∷ []) r k l
         → (all : List Kept) × (outs ≡ all ++ rest) × Feeds one funs {A = Unit {0}} old new at (records_of all) (Ok (tt {0})) h l
     outs_more new l a r is feeds =
-        let this : Feeds one funs {A = Kept} mid new at (rec.numbers ∷ []) (Ok a) k l = subst (λ (q : Result Kept End). Feeds one funs mid new at (rec.numbers ∷ []) q k l) is feeds in (
+        let this : Feeds one funs {A = Unit {0}} mid new at (rec.numbers ∷ []) (Ok a) k l = subst (λ (q : Result (Unit {0}) End). Feeds one funs mid new at (rec.numbers ∷ []) q k l) is feeds in (
           taken ++ rec ∷ [],
           split ∙ ap (λ (t : List Kept). taken ++ t) next ∙ sym (append_assoc taken (rec ∷ []) rest),
           subst (λ (xs : List Record). Feeds one funs {A = Unit {0}} old new at xs (Ok (tt {0})) h l) (sym (map-append numbers_of taken (rec ∷ [])))
@@ -287,14 +264,14 @@ module _ {O : Type 0} (one : O → Record → Outcome → Type 0) (total : (w : 
         )
 
     -- one was stopped
-    pub outs_stopped : (new : List (Step O)) (l : Option (List ℕ)) (e : End) (r : Result Kept End) (r' : Result (Unit {0}) End) → r ≡ Err e → r' ≡ Err e → Feeds one funs {A = Kept} mid new at (rec.numbers ∷ []) r k l
+    pub outs_stopped : (new : List (Step O)) (l : Option (List ℕ)) (e : End) (r r' : Result (Unit {0}) End) → r ≡ Err e → r' ≡ Err e → Feeds one funs {A = Unit {0}} mid new at (rec.numbers ∷ []) r k l
         → Feeds one funs {A = Unit {0}} old new at (records_of outs) r' h l
     outs_stopped new l e r r' is is' feeds =
-        let this : Feeds one funs {A = Kept} mid new at (rec.numbers ∷ []) (Err e) k l = subst (λ (q : Result Kept End). Feeds one funs mid new at (rec.numbers ∷ []) q k l) is feeds in
-        let both = feeds_more (Unit {0}) Kept old mid new at (records_of taken) (rec.numbers ∷ []) (tt {0}) (Err e) h k l so_far this in
-        let all = feeds_no_more Kept old new at (records_of taken ++ rec.numbers ∷ []) (records_of rest) e h l both in
+        let this : Feeds one funs {A = Unit {0}} mid new at (rec.numbers ∷ []) (Err e) k l = subst (λ (q : Result (Unit {0}) End). Feeds one funs mid new at (rec.numbers ∷ []) q k l) is feeds in
+        let both = feeds_more (Unit {0}) (Unit {0}) old mid new at (records_of taken) (rec.numbers ∷ []) (tt {0}) (Err e) h k l so_far this in
+        let all = feeds_no_more (Unit {0}) old new at (records_of taken ++ rec.numbers ∷ []) (records_of rest) e h l both in
         let is_all : records_of outs ≡ (records_of taken ++ rec.numbers ∷ []) ++ records_of rest = ap records_of (split ∙ ap (λ (t : List Kept). taken ++ t) next) ∙ taken_of taken rec rest in
-        subst (λ (xs : List Record). Feeds one funs {A = Unit {0}} old new at xs r' h l) (sym is_all) (feeds_alike Kept (Unit {0}) old new at _ e r' h l is' all)
+        subst (λ (xs : List Record). Feeds one funs {A = Unit {0}} old new at xs r' h l) (sym is_all) (subst (λ (q : Result (Unit {0}) End). Feeds one funs old new at ((records_of taken ++ rec.numbers ∷ []) ++ records_of rest) q h l) (sym is') all)
 
   -- none is left
   pub outs_all : (old new : List (Step O)) (at : ℕ) (outs taken left : List Kept) (h l : Option (List ℕ)) → outs ≡ taken ++ left → length left ≡ 0

@@ -11,9 +11,9 @@ use Rattle.msl_program.specs.declared.script.FilterSpec.{FilterSpec}
 use Rattle.msl_stage.specs.declared.filter.FilterState.{FilterState}
 use Rattle.msl_stage.specs.declared.step.Step.{Step}
 use Rattle.msl_stage.specs.declared.step.Step.TheVariants.{One, Filter, Farm}
-use Rattle.msl_base.specs.declared.answer.Answer.{Answer}
-use Rattle.msl_base.specs.declared.answer.Answer.TheVariants as answer
-use Rattle.msl_stage.specs.Answers.{MayAnswer}
+use Rattle.msl_base.specs.declared.answer.Halt.{Halt}
+use Rattle.msl_base.specs.declared.answer.Halt.TheVariants as halt
+use Rattle.msl_stage.specs.Answers.{MayMake}
 use Rattle.msl_stage.specs.Lines.{AnyOf, StepRuns, LineRuns, IsStep, AreSteps}
 use Rattle.msl_stage.specs.Feeding.{GoesOn, StopsAt, IsBegun, IsCut}
 
@@ -247,8 +247,8 @@ module _ {O : Type 0} (one : O → Record → Outcome → Type 0) where
   any_at (v ∷ ws) zero w x r lt here is = inl (subst (λ (u : O). one u x r) here is)
   any_at (v ∷ ws) (suc k) w x r lt here is = inr (any_at ws k w x r (omega (arith, lt)) here is)
 
-  -- the answer of one of them
-  pub any_answers : (ws : List O) (k : ℕ) (w : O) (x : Record) (a : Answer) → k < length ws → w ≡ slice_index_or ws k w → MayAnswer (one w x) a → MayAnswer (AnyOf one ws x) a
-  any_answers ws k w x (answer.Rec y) lt here is = any_at ws k w x (Ok y.numbers) lt here is
-  any_answers ws k w x (answer.Fault f) lt here is = any_at ws k w x (Err f) lt here is
-  any_answers ws k w x answer.NoMemory lt here is = tt
+  -- what one of them made
+  pub any_makes : (A : Type 0) (ws : List O) (k : ℕ) (w : O) (x y : Record) (r : Result A Halt) → k < length ws → w ≡ slice_index_or ws k w → MayMake (one w x) y r → MayMake (AnyOf one ws x) y r
+  any_makes A ws k w x y (Ok a) lt here is = any_at ws k w x (Ok y) lt here is
+  any_makes A ws k w x y (Err (halt.Fault f)) lt here is = any_at ws k w x (Err f) lt here is
+  any_makes A ws k w x y (Err halt.NoMemory) lt here is = tt

@@ -15,6 +15,17 @@ MayAnswer P (answer.Rec r) = P (Ok r.numbers)
 MayAnswer P (answer.Fault f) = P (Err f)
 MayAnswer P answer.NoMemory = ⊤
 
+-- the same of a record that was to become its result
+abbrev pub MayMake : {A : Type 0} → (Outcome → Type 0) → Record → Result A Halt → Type 0
+MayMake P y (Ok a) = P (Ok y)
+MayMake P y (Err (halt.Fault f)) = P (Err f)
+MayMake P y (Err halt.NoMemory) = ⊤
+
+-- what a call comes to, with the halt that it was lent
+abbrev pub made_by : {A B : Type 0} → Result A B → Halt → Result A Halt
+made_by (Ok a) why = Ok a
+made_by (Err b) why = Err why
+
 abbrev pub numbers_of : Kept → Record
 numbers_of r = r.numbers
 

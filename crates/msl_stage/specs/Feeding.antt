@@ -1,19 +1,19 @@
 -- What becomes of records that go into a line, one after the other, and of the end of its input. R is what the line makes
 -- of a stream before, and R' behind them.
-use Rattle.std.specs.Prelude.{ℕ, ◌≡◌, List, [], ◌∷◌, ◌++◌, length, Option, Result, Ok, Err}
+use Rattle.std.specs.Prelude.{ℕ, ◌≡◌, List, [], ◌++◌, length, Option, Result, Ok, Err}
 use Rattle.std.specs.Io.KnownBytes.{Appends, Keeps}
 use Rattle.msl_base.specs.Records.{Kept}
 use Rattle.msl_base.specs.Streams.{Record, Outcome, done, failed, Stream, stream, before}
 use Rattle.msl_base.specs.declared.fault.Fault.{Fault}
 use Rattle.msl_base.specs.declared.fault.End.{End}
 use Rattle.msl_base.specs.declared.fault.End.TheVariants as ends
-use Rattle.msl_base.specs.declared.answer.Answer.{Answer}
-use Rattle.msl_base.specs.declared.answer.Answer.TheVariants as answer
 use Rattle.msl_base.specs.declared.answer.Halt.{Halt}
 use Rattle.msl_base.specs.declared.answer.Halt.TheVariants as halt
 use Rattle.msl_fun.specs.declared.funs.Fun.{Fun}
 use Rattle.msl_io.specs.Causes.{Rose}
 use Rattle.msl_io.specs.Text.{text}
+use Rattle.msl_stage.specs.declared.run.Stop.{Stop}
+use Rattle.msl_stage.specs.declared.run.Stop.TheVariants.{Halted, Unwritten}
 use Rattle.msl_stage.specs.declared.step.Step.{Step}
 use Rattle.msl_stage.specs.Answers.{records_of}
 use Rattle.msl_stage.specs.Lines.{LineRuns}
@@ -33,6 +33,21 @@ IsBegun R got sent = (S : Stream) → (T : Stream) × R (before got S) T × (oth
 -- whatever follows, this is the beginning of the text of something that may be made
 abbrev pub IsCut : (Stream → Stream → Type 0) → List Record → List ℕ → Type 0
 IsCut R got written = (S : Stream) → (T : Stream) × R (before got S) T × (rest : List ℕ) × (text T.records ≡ written ++ rest)
+
+-- the end of a stream at which a step has no result
+abbrev pub end_of : Halt → End
+end_of (halt.Fault f) = ends.Fault f
+end_of halt.NoMemory = ends.Memory
+
+-- how a stream ends that stops so
+abbrev pub end_by : Stop → Halt → End
+end_by Halted why = end_of why
+end_by Unwritten why = ends.Write
+
+-- what a call comes to, with why a step had no result
+abbrev pub ended : {A : Type 0} → Result A Stop → Halt → Result A End
+ended (Ok a) why = Ok a
+ended (Err s) why = Err (end_by s why)
 
 -- the records went through, and what was made of them was written, or why not; no other end comes here
 abbrev pub Fed : {A : Type 0} → (Stream → Stream → Type 0) → (Stream → Stream → Type 0) → List Record → Result A End → Option (List ℕ) → Option (List ℕ) → Type 0

@@ -1,7 +1,7 @@
 //! A line of steps that records stream through, and its run in rounds.
 //!
-//! - `OneToOne` is work on each record by itself: `one` answers what its relation `one` says, and leaves it (`answer`,
-//!   `same`); each record has some outcome by it (`total`).
+//! - `OneToOne` is work on each record by itself: `work` makes a record what its relation `one` says, and leaves the
+//!   relation (`made`, `same`); each record has some outcome by it (`total`).
 //! - `FilterState::step` and `flush` are exactly what the filter makes of a record and of the end of a stream, and leave
 //!   the state at a refusal (`step`, `flush`, by `Filters` of `msl_program`).
 //! - `run_rounds` reads records, takes each through all steps of a line and writes what comes out. `ran` says what it
@@ -23,6 +23,6 @@ mod run;
 mod step;
 
 pub use filter::{FilterState, Outs};
-pub use one::OneToOne;
+pub use one::{Halted, OneToOne};
 pub use rounds::run_rounds;
 pub use step::{Step, Workers};

@@ -8,7 +8,7 @@ ghost use Rattle.msl_stage.specs.Reading.{CloseCause, ClosedWith, Flushed, IsFre
 
 use crate::run::Run;
 use crate::{OneToOne, Step};
-use msl_base::{End, Fault, Rec};
+use msl_base::{End, Fault, Halt, Rec};
 use msl_fun::Funs;
 use msl_io::{Line, LineReader, RecWriter, Sink, Source};
 use std::alloc::Global;
@@ -41,6 +41,7 @@ pub fn run_rounds<O: OneToOne, S: Source, K: Sink>(
         funs,
         steps: line,
         writer: RecWriter::new(),
+        why: Halt::NoMemory,
     };
     let end = stream(&mut reader, &mut run, src, out);
     flushed(out, end)
@@ -60,12 +61,12 @@ fn stream<O: OneToOne, S: Source, K: Sink>(
 {
     'records: loop {
         match take_record(reader, src) {
-            Ok(Some(rec)) => match run.feed(0, rec, out) {
-                Ok(rec) => reader.reuse(rec),
-                Err(end) => return end,
+            Ok(Some(mut rec)) => match run.feed(0, &mut rec, out) {
+                Ok(()) => reader.reuse(rec),
+                Err(stop) => return stop.end(run.why),
             },
             Ok(None) => return close(run, out),
-            Err(stop) => return stop,
+            Err(end) => return end,
         }
     }
 }
@@ -78,7 +79,7 @@ fn close<O: OneToOne, K: Sink>(run: &mut Run<'_, '_, O>, out: &mut K) -> End
 {
     match run.finish(0, out) {
         Ok(()) => End::Done,
-        Err(end) => end,
+        Err(stop) => stop.end(run.why),
     }
 }
 

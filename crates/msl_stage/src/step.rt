@@ -1,9 +1,9 @@
 ghost use Rattle.std.specs.Prelude.{◌≡◌, ◌≤◌, length};
-ghost use Rattle.msl_stage.specs.Answers.{Gives, MayAnswer};
+ghost use Rattle.msl_stage.specs.Answers.{Gives, MayMake, made_by};
 ghost use Rattle.msl_stage.specs.Lines.{AnyOf, IsStep, flush_of};
 
-use crate::{FilterState, OneToOne, Outs};
-use msl_base::{Answer, Halt, Rec};
+use crate::{FilterState, Halted, OneToOne, Outs};
+use msl_base::{Halt, Rec};
 use msl_fun::Funs;
 use std::alloc::Global;
 use std::marker::Model;
@@ -55,15 +55,15 @@ impl<O: OneToOne> Workers<O> {
         Workers { workers, next: 0 }
     }
 
-    /// Has the next worker work on a record.
+    /// Has the next worker work on a record, as `OneToOne::work`.
     #[inline(always)]
-    pub fn one(&mut self, alloc: Global, x: Rec) -> Answer
+    pub fn work(&mut self, alloc: Global, x: &mut Rec, why: &mut Halt) -> Result<(), Halted>
         requires some { 1 ≤ length self.old }
         ensures same { self.new ≡ self.old }
-        ensures answer { MayAnswer (AnyOf O.one self.old x.numbers) result }
+        ensures made { MayMake (AnyOf O.one self.old x.old.numbers) x.new.numbers (made_by result why.new) }
     {
         let k = self.next % self.workers.len();
         self.next = k + 1;
-        self.workers[k].one(alloc, x)
+        self.workers[k].work(alloc, x, why)
     }
 }

@@ -7,5 +7,5 @@ use Rattle.msl_line.proofs.worker.Worker.through.Given as goal
 abbrev pub invariant-loop-i : goal.invariant-loop-i
 invariant-loop-i g l = record {
   same : l.self-inside.tasks.items ≡ l.fn.self;
-  goes : (r : Outcome) → Does (drop l.i l.fn.self) l.rec.numbers r → Does l.fn.self l.fn.x.numbers r;
+  goes : (r : Outcome) → Does (drop l.i l.fn.self) l.x.numbers r → Does l.fn.self l.initial.x.numbers r;
 }

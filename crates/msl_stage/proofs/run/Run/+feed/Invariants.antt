@@ -1,4 +1,4 @@
-use Rattle.std.proofs.Common.{◌≡◌, ◌+◌, ◌-◌, ◌*◌, ◌≤◌, ◌++◌, ℕ, List, [], ◌∷◌, length, Option, Result, Ok}
+use Rattle.std.proofs.Common.{◌≡◌, ◌+◌, ◌-◌, ◌*◌, ◌++◌, ℕ, List, [], ◌∷◌, length, Option, Result, Ok}
 use Rattle.msl_base.specs.Records.{Kept}
 use Rattle.msl_base.specs.declared.fault.End.{End}
 use Rattle.msl_stage.specs.declared.step.Step.{Step}
@@ -19,7 +19,7 @@ decreases-spread g l = 3 * (length l.self.now.steps.items - l.at) + 2
 -- what comes of the record in the steps that are left comes of that at the beginning in all; no step has changed
 abbrev pub invariant-feed-loop-at : goal.invariant-feed-loop-at
 invariant-feed-loop-at g l = record {
-  rest : (new : List (Step g.row.O.Denot)) (r : Result Kept End) (h k : Option (List ℕ)) → Feeds g.O.OneToOne.one l.initial.self.funs.now l.initial.self.steps.items new l.at (l.rec.numbers ∷ []) r h k
+  rest : (new : List (Step g.row.O.Denot)) (r : Result (Unit {0}) End) (h k : Option (List ℕ)) → Feeds g.O.OneToOne.one l.initial.self.funs.now l.initial.self.steps.items new l.at (l.rec.numbers ∷ []) r h k
       → Feeds g.O.OneToOne.one l.initial.self.funs.now l.initial.self.steps.items new l.from (l.initial.rec.numbers ∷ []) r h k;
   steps : l.self.steps.items ≡ l.initial.self.steps.items;
   funs : l.self.funs ≡ l.initial.self.funs;

@@ -2,7 +2,8 @@ use Rattle.std.proofs.Common.{arith, ◌<◌, ◌+◌, List, length, sym, ap, �
 use Rattle.std.proofs.lemmas.Result.{err_from_is_err_and}
 use Rattle.msl_base.specs.declared.fault.End.{End}
 use Rattle.msl_fun.specs.declared.funs.Fun.{Fun}
-use Rattle.msl_stage.specs.Feeding.{Finishes, Spreads}
+use Rattle.msl_stage.specs.Feeding.{Finishes, Spreads, end_by, ended}
+use Rattle.msl_stage.specs.declared.run.Stop.{Stop}
 use Rattle.msl_stage.specs.Lines.{AreSteps}
 use Rattle.msl_stage.proofs.Feeding.{is_at}
 use Rattle.msl_stage.proofs.Finishing.{finishes_flush, finishes_stopped}
@@ -25,11 +26,13 @@ returns-in_err-spread-clause-finished g t c =
     let total = g.met.O.OneToOne.total in
     let funs = c.args.self.now.funs.now in
     let why = c.in_err-spread.field-0.0 in
+    let w = c.spread.new.self.why in
+    let come : Result (Unit {0}) Stop → Result (Unit {0}) End = λ q. ended q w in
     let h = g.K.Sink.held c.args.out.now in
     let l = g.K.Sink.held c.spread.new.out in
     let out = err_from_is_err_and c.from_residual.result c.from_residual.ensures.1 in
-    finishes_stopped one total funs ss c.spread.new.self.steps.items c.args.at c.index.result.now lt c.index.ensures (Unit {0}) (Unit {0}) c.flush-made.result why c.from_residual.result h l c.requires.steps (out.1 ∙ ap Err out.2) c.flush-made.ensures
-    (subst (λ (r : Result (Unit {0}) End). Spreads one funs ss c.spread.new.self.steps.items (c.args.at + 1) c.flush-made.result r h l) c.in_err-spread.was c.spread.ensures.spread)
+    finishes_stopped one total funs ss c.spread.new.self.steps.items c.args.at c.index.result.now lt c.index.ensures (Unit {0}) (Unit {0}) c.flush-made.result (end_by why w) (ended c.from_residual.result w) h l c.requires.steps (ap come (out.1 ∙ ap Err out.2)) c.flush-made.ensures
+    (subst (λ (r : Result (Unit {0}) Stop). Spreads one funs ss c.spread.new.self.steps.items (c.args.at + 1) c.flush-made.result (ended r w) h l) c.in_err-spread.was c.spread.ensures.spread)
 
 pub finish-requires : goal.finish-requires
 finish-requires g t c κs within =
@@ -53,6 +56,6 @@ returns-clause-finished g t c =
     let h = g.K.Sink.held c.args.out.now in
     let k = g.K.Sink.held c.spread.new.out in
     let l = g.K.Sink.held c.finish.new.out in
-    finishes_flush one total funs ss c.spread.new.self.steps.items c.args.at c.index.result.now lt c.index.ensures (Unit {0}) (Unit {0}) c.flush-made.result tt c.finish.result h k l c.flush-made.ensures
-    (subst (λ (r : Result (Unit {0}) End). Spreads one funs ss c.spread.new.self.steps.items (c.args.at + 1) c.flush-made.result r h k) c.in_ok-spread.was c.spread.ensures.spread)
-    (subst (λ (fs : Bor (List Fun)). Finishes one fs.now c.spread.new.self.steps.items (c.args.at + 1) c.finish.result k l) c.spread.ensures.funs c.finish.ensures.finished)
+    finishes_flush one total funs ss c.spread.new.self.steps.items c.args.at c.index.result.now lt c.index.ensures (Unit {0}) (Unit {0}) c.flush-made.result tt (ended c.finish.result c.finish.new.self.why) h k l c.flush-made.ensures
+    (subst (λ (r : Result (Unit {0}) Stop). Spreads one funs ss c.spread.new.self.steps.items (c.args.at + 1) c.flush-made.result (ended r c.spread.new.self.why) h k) c.in_ok-spread.was c.spread.ensures.spread)
+    (subst (λ (fs : Bor (List Fun)). Finishes one fs.now c.spread.new.self.steps.items (c.args.at + 1) (ended c.finish.result c.finish.new.self.why) k l) c.spread.ensures.funs c.finish.ensures.finished)
