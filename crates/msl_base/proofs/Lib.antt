@@ -3,3 +3,4 @@ pub mod Lists
 pub mod StreamLaws
 pub mod Names
 pub mod Tiles
+pub mod Codes

@@ -1,5 +1,7 @@
 pub mod Padding
 pub mod Paths
+pub mod Codes
+pub mod Covers
 pub mod Smalls
 pub mod Records
 pub mod Streams

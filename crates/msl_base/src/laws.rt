@@ -1,7 +1,8 @@
 //! Laws of the definitions, and worked examples. Each function is empty, and its contract is the law or the examples.
 
-ghost use Rattle.std.specs.Prelude.{◌≡◌, ◌<◌, ◌≤◌, ℕ, pos, [], ◌∷◌};
+ghost use Rattle.std.specs.Prelude.{◌≡◌, ◌^◌, ◌<◌, ◌≤◌, ℕ, pos, List, [], ◌∷◌, Option, Some, None};
 ghost use Rattle.msl_base.specs.Blocks.{AreTiles, IsInBlock, block_of};
+ghost use Rattle.msl_base.specs.Codes.{code, code_of, HasCode, Decodes};
 ghost use Rattle.msl_base.specs.declared.fault.Fault.TheVariants.{Shape, ManyLines};
 ghost use Rattle.msl_base.specs.Examples.{first_of};
 ghost use Rattle.msl_base.specs.Streams.{Record, Outcome, Stream, stream, done, failed, unread, cut, Pointwise, Unordered, pointwise, IsFunction, PrefixLaw, Sound};
@@ -49,4 +50,24 @@ pub fn a_beginning_is_sound()
 pub fn tiles()
     ensures side_by_side { (n b : ℕ) → 1 ≤ b → AreTiles n b }
     ensures block { (n b j i : ℕ) → j < b → IsInBlock n b j i → block_of n b i ≡ j }
+{}
+
+/// A path's code is above 0 and below 2 ^ 57, and no other path has it.
+pub fn a_code_is_of_one_path()
+    ensures range { (bits : ℕ) (path : List ℕ) → HasCode bits path → (0 < code bits path) × (code bits path < 2 ^ 57) }
+    ensures distinct { (bits : ℕ) (p q : List ℕ) → 1 ≤ bits → HasCode bits p → HasCode bits q → code bits p ≡ code bits q → p ≡ q }
+{}
+
+/// A code is read as the path that it was made of, and the path that was read has the code.
+pub fn codes_are_undone()
+    ensures read { (bits : ℕ) (path : List ℕ) (found : Option (List ℕ)) → 1 ≤ bits → HasCode bits path → Decodes bits (code bits path) found → found ≡ Some path }
+    ensures made { (bits c : ℕ) (path : List ℕ) → Decodes bits c (Some path) → code_of bits path ≡ Some c }
+{}
+
+/// With fields of 2 bits, step 2 behind the leading 1 is 6. The leading 1 of 2 stands within a field, and 0 has none.
+pub fn codes_with_2_bits()
+    ensures made { code_of 2 (2 ∷ []) ≡ Some 6 }
+    ensures read { Decodes 2 6 (Some (2 ∷ [])) }
+    ensures within { Decodes 2 2 None }
+    ensures zero { Decodes 2 0 None }
 {}

@@ -9,15 +9,19 @@
 //! - `limits` holds each limit once; code and definitions cite it from there.
 //! - `Streams` says what a stream is, and what it means to take one record by record, in order or by several workers.
 //!   `Blocks` says how the elements of a list lie in blocks.
+//! - `Covers` says how the work on a tree is divided into splits and leaves.
+//! - `Path::code` makes one number of a path, and none exactly where its steps have more than 56 bits. `Path::of_code`
+//!   gives the path back, and none exactly where no path has the number.
 //! - `laws`: record by record there is one output for one input; what is made of a beginning begins what is made of the
-//!   whole; a whole output is sound; the order of the input is one of the orders of a farm; blocks lie side by side.
-//!   Worked examples of streams.
+//!   whole; a whole output is sound; the order of the input is one of the orders of a farm; blocks lie side by side; a
+//!   code is of one path. Worked examples of streams and of codes.
 //!
 //! No crate takes `Answer` and `End` so far.
 #![tactic(auto)]
 
 mod answer;
 mod blocks;
+mod code;
 mod fault;
 pub mod laws;
 pub mod limits;

@@ -78,6 +78,12 @@ pub const MOST_LEVELS: usize = 64;
 /// Children of a node of a search, or parts of a division: each step of a path is below.
 pub const MOST_CHILDREN: u8 = 64;
 
+/// Bits of a path's steps in its code.
+pub const MOST_PATH_BITS: u32 = 56;
+
+/// Bits of one step in a code.
+pub const MOST_STEP_BITS: u32 = 6;
+
 /// Numbers of a `Small`.
 pub const MOST_SMALL: usize = 16;
 

@@ -1,5 +1,9 @@
 //! Names, records, lists, paths and blocks.
 
+ghost use Rattle.std.specs.Prelude.{◌≤◌, IfSome};
+ghost use Rattle.msl_base.specs.Codes.{AreFields};
+ghost use Rattle.msl_base.specs.declared.limits.TheConstants.{MOST_STEP_BITS};
+
 use msl_base::{ListOf, Name, Path, Rec, Small, bounds};
 use std::test::Fail;
 
@@ -45,6 +49,76 @@ fn a_small_is_its_list(rt: HostRuntime) {
     for numbers in [[].as_slice(), [1, -2, 3].as_slice()] {
         assert!(rt; numbers.len() <= 16);
         assert_eq!(rt; Small::of(numbers).as_slice(), numbers);
+    }
+}
+
+// The steps of a path, the bits of a field, and the code.
+const CODES: &[(&[u8], u32, Option<u64>)] = &[
+    (&[], 1, Some(1)),
+    (&[], 6, Some(1)),
+    (&[2], 2, Some(6)),
+    (&[1, 0, 3], 2, Some(83)),
+    (&[63; 9], 6, Some((1 << 55) - 1)),
+    (&[63; 10], 6, None),
+    (&[0; 56], 1, Some(1 << 56)),
+    (&[0; 57], 1, None),
+];
+
+#[test]
+fn paths_have_codes(rt: HostRuntime) {
+    for &(steps, bits, want) in CODES {
+        assert!(rt; 1 <= bits && bits <= 6);
+        match path_of(steps, bits) {
+            Some(path) => {
+                assert_eq!(rt; path.code(bits), want, "{steps:?} with {bits} bits");
+            }
+            None => assert!(rt; false, "{steps:?} with {bits} bits"),
+        }
+        if let Some(code) = want {
+            match Path::of_code(code, bits) {
+                Some(path) => assert_eq!(rt; path.as_slice(), steps),
+                None => assert!(rt; false, "{code} with {bits} bits"),
+            }
+        }
+    }
+}
+
+// The path of these steps, if each has a field.
+fn path_of(steps: &[u8], bits: u32) -> Option<Path>
+    requires { bits ≤ MOST_STEP_BITS }
+    ensures { IfSome result (λ path. AreFields bits path) }
+{
+    let mut path = Path::root();
+    for &step in steps {
+        if step >= 1 << bits {
+            return None;
+        }
+        path = path.push(step)?;
+    }
+    Some(path)
+}
+
+// Numbers that are no path's code, and the bits of a field.
+const NO_CODES: &[(u64, u32)] = &[
+    (0, 1),
+    (0, 2),
+    (2, 2),
+    (3, 2),
+    (8, 2),
+    (32, 6),
+    (1 << 55, 6),
+    (1 << 57, 1),
+    (u64::MAX, 6),
+];
+
+#[test]
+fn other_numbers_are_no_codes(rt: HostRuntime) {
+    for &(code, bits) in NO_CODES {
+        assert!(rt; 1 <= bits && bits <= 6);
+        assert!(rt;
+            Path::of_code(code, bits).is_none(),
+            "{code} with {bits} bits"
+        );
     }
 }
 

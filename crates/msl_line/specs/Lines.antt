@@ -1,36 +1,45 @@
 -- The line of steps of a stage, whose first number is k.
 use Rattle.std.specs.Prelude.{◌≡◌, ℕ, ◌+◌, List, [], ◌∷◌, ◌++◌, Option, Some, None, slice_get, replicate}
-use Rattle.msl_base.specs.Streams.{Stream}
+use Rattle.msl_base.specs.Streams.{Record, Outcome, Stream}
 use Rattle.msl_fun.specs.declared.funs.Fun.{Fun}
 use Rattle.msl_program.specs.Script.{Script}
 use Rattle.msl_program.specs.Promises.{FilterFits}
 use Rattle.msl_program.specs.declared.script.FilterSpec.{FilterSpec}
-use Rattle.msl_program.specs.declared.data.DataProg.{DataProg}
+use Rattle.msl_program.specs.declared.script.BnbSpec.{BnbSpec}
 use Rattle.msl_program.specs.declared.stage.Stage.{Stage, Row_of-Stage, end_of-Stage, more_of-Stage}
 use Rattle.msl_program.specs.declared.stage.Stage.TheVariants.{Atomic, Filter, Data, DivCon, Bnb, Pipe'}
 use Rattle.msl_program.specs.Stages.{farm, primitives_of}
-use Rattle.msl_program.specs.Runs.{AtPlace, Runs, RunsMain, seq_run, SeqRuns}
+use Rattle.msl_program.specs.Runs.{AtPlace, One, Runs, RunsMain, seq_one, seq_run, SeqRuns}
 use Rattle.msl_stage.specs.declared.filter.FilterState.{FilterState}
 use Rattle.msl_stage.specs.declared.step.Step.{Step}
 use Rattle.msl_stage.specs.declared.step.Step.TheVariants as step
-use Rattle.msl_line.specs.Duties.{Duty, function, program}
+use Rattle.msl_line.specs.Duties.{Duty, function, program, division, search, first_search}
 use Rattle.msl_line.specs.declared.how.How.{How}
 use Rattle.msl_line.specs.declared.how.How.TheVariants.{InTurn, Beside}
 
--- the duty of a stage that is a data program; a script keeps that it is there
-abbrev pub program_duties : Script → ℕ → Option DataProg → List Duty
-program_duties s k (Some p) = program k s.funs p ∷ []
-program_duties s k None = []
+-- the duty of a stage that names this by its place; a script keeps that it is there
+abbrev pub duty_at : {A : Type 0} → (A → Duty) → Option A → List Duty
+duty_at duty (Some a) = duty a ∷ []
+duty_at duty None = []
 
-module _ (s : Script) where
+-- the first where all is done in turn, else the second
+abbrev pub in_turn_else : {R A : Type 0} → How R → A → A → A
+in_turn_else InTurn a b = a
+in_turn_else (Beside rt) a b = b
+
+-- in turn a search gives the answer of `seq`
+abbrev pub search_duty : {R : Type 0} → How R → ℕ → List Fun → BnbSpec → Duty
+search_duty how k funs b = in_turn_else how (first_search k funs b) (search k funs b)
+
+module _ {R : Type 0} (how : How R) (s : Script) where
   abbrev mutual
     -- what a worker does that is a whole stage; no filter is in a farm
     pub duties_of : ℕ → Stage → List Duty
     duties_of k (Atomic f) = function k s.funs f ∷ []
     duties_of k (Filter i) = []
-    duties_of k (Data i on) = program_duties s k (slice_get s.datas i)
-    duties_of k (DivCon i on) = []
-    duties_of k (Bnb i on) = []
+    duties_of k (Data i on) = duty_at (program k s.funs) (slice_get s.datas i)
+    duties_of k (DivCon i on) = duty_at (division k s.funs) (slice_get s.divcons i)
+    duties_of k (Bnb i on) = duty_at (search_duty how k s.funs) (slice_get s.bnbs i)
     duties_of k (farm n st) = duties_of k st
     duties_of k (Pipe' _ sts) = duties_in k sts
 
@@ -51,12 +60,12 @@ module _ {R : Type 0} (how : How R) (s : Script) where
   abbrev mutual
     -- a step for each stage that is no pipe
     pub IsLineOf : ℕ → Stage → List (Step (List Duty)) → Type 0
-    IsLineOf k (Atomic f) ss = ss ≡ step.One (duties_of s k (Atomic f)) ∷ []
+    IsLineOf k (Atomic f) ss = ss ≡ step.One (duties_of how s k (Atomic f)) ∷ []
     IsLineOf k (Filter i) ss = AtPlace s.filters i (λ p. IsFilterStep s.funs p k ss)
-    IsLineOf k (Data i on) ss = ss ≡ step.One (duties_of s k (Data i on)) ∷ []
-    IsLineOf k (DivCon i on) ss = ⊥
-    IsLineOf k (Bnb i on) ss = ⊥
-    IsLineOf k (farm n st) ss = ss ≡ farm_step how n (duties_of s k st) ∷ []
+    IsLineOf k (Data i on) ss = ss ≡ step.One (duties_of how s k (Data i on)) ∷ []
+    IsLineOf k (DivCon i on) ss = ss ≡ step.One (duties_of how s k (DivCon i on)) ∷ []
+    IsLineOf k (Bnb i on) ss = ss ≡ step.One (duties_of how s k (Bnb i on)) ∷ []
+    IsLineOf k (farm n st) ss = ss ≡ farm_step how n (duties_of how s k st) ∷ []
     IsLineOf k (Pipe' _ sts) ss = IsLineThrough k sts ss
 
     pub IsLineThrough : {n : _} → ℕ → Row_of-Stage n → List (Step (List Duty)) → Type 0
@@ -72,6 +81,10 @@ InTurnElse (Beside rt) P Q = Q
 -- what a line has to make of a stream: what `seq` makes of it, or any stream that the script leaves open
 abbrev pub StageMeans : {R : Type 0} → How R → Script → ℕ → Stage → Stream → Stream → Type 0
 StageMeans how s k st X Y = InTurnElse how (Y ≡ seq_run s k st X) (Runs s k st X Y)
+
+-- the same of one record
+abbrev pub OneMeans : {R : Type 0} → How R → Script → ℕ → Stage → Record → Outcome → Type 0
+OneMeans how s k st x r = InTurnElse how (r ≡ seq_one s k st x) (One s k st x r)
 
 abbrev pub Means : {R : Type 0} → How R → Script → Stream → Stream → Type 0
 Means how s X Y = InTurnElse how (SeqRuns s X Y) (RunsMain s X Y)

@@ -11,8 +11,8 @@ pub fn line_runs<R>()
     ensures { (how : How R) (s : Script) (st : Stage) → LineMeans how s st }
 {}
 
-/// What a worker that is a whole stage makes of a record is what the stage makes of it, and no other outcome than that
-/// of `seq`. For stages that name only what is there and have no filter.
-pub fn worker_runs()
-    ensures { (s : Script) (st : Stage) → WorkerMeans s st }
+/// What a worker that is a whole stage makes of a record is what the stage may make of it, and where all is done in turn
+/// what `seq` makes of it. For stages that name only what is there and have no filter.
+pub fn worker_runs<R>()
+    ensures { (how : How R) (s : Script) (st : Stage) → WorkerMeans how s st }
 {}

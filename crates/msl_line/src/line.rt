@@ -1,7 +1,6 @@
 ghost use Rattle.std.specs.Prelude.{◌≡◌, ◌<◌, ◌≤◌, ◌+◌, IfOk, OnOk, true, false, [], ◌∷◌, length};
 ghost use Rattle.msl_base.specs.Streams.{Stream};
 ghost use Rattle.msl_base.specs.declared.limits.TheConstants.{MOST_PRIMITIVES};
-ghost use Rattle.msl_line.specs.Built.{IsBuilt};
 ghost use Rattle.msl_line.specs.Duties.{Does};
 ghost use Rattle.msl_line.specs.Lines.{duties_of, farm_step, IsFilterStep, Means, PutsLine};
 ghost use Rattle.msl_program.specs.Fitting.{Fits};
@@ -27,7 +26,6 @@ pub fn line_of<'a, R: Threads>(
     script: &'a Script,
     how: How<'a, R>,
 ) -> Result<Vec<Step<'a, Worker<'a, R>>>, NoMemory>
-    requires { IsBuilt script.now.main }
     ensures steps { IfOk result (λ l. AreSteps Does script.now.funs l.items) }
     ensures runs { IfOk result (λ l. (X Y : Stream) → LineRuns Does script.now.funs l.items X Y → Means how.entry script.now X Y) }
 {
@@ -47,13 +45,12 @@ fn put_steps<'a, R: Threads>(
     line: &mut Vec<Step<'a, Worker<'a, R>>>,
 ) -> Result<(), NoMemory>
     requires fits { Fits script.now false stage.now }
-    requires built { IsBuilt stage.now }
     requires sized { IsSized stage.now }
     requires few { number + primitives_of stage.now ≤ MOST_PRIMITIVES + 1 }
     ensures { OnOk result (PutsLine how.entry script.now number stage.now line.old.items line.new.items) }
 {
     match stage {
-        Stage::Atomic(_) | Stage::Data(_, _) => {
+        Stage::Atomic(_) | Stage::Data(_, _) | Stage::DivCon(_, _) | Stage::Bnb(_, _) => {
             line.push(Step::One(worker_of(alloc, script, how, number, stage)?))?;
         }
         Stage::Filter(at) => line.push(filter_at(script, number, *at))?,
@@ -67,8 +64,6 @@ fn put_steps<'a, R: Threads>(
                 number += primitives(stage);
             }
         }
-        // None is in a stage of which a line can be made.
-        Stage::DivCon(_, _) | Stage::Bnb(_, _) => {}
     }
     Ok(())
 }
@@ -93,7 +88,7 @@ fn farm_of<'a, R: Threads>(
     requires fits { Fits script.now true stage.now }
     requires sized { IsSized stage.now }
     requires few { number + primitives_of stage.now ≤ MOST_PRIMITIVES + 1 }
-    ensures { IfOk result (λ s. s ≡ farm_step how.entry count (duties_of script.now number stage.now)) }
+    ensures { IfOk result (λ s. s ≡ farm_step how.entry count (duties_of how.entry script.now number stage.now)) }
 {
     match how {
         How::InTurn => Ok(Step::One(worker_of(alloc, script, how, number, stage)?)),

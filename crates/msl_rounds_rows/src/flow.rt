@@ -1,6 +1,6 @@
 //! A main stage, and what comes of it by each command.
 
-use msl_fixture::{Case, ROUNDS, SEQ, meet, not_run};
+use msl_fixture::{Case, ROUNDS, SEQ, WORKING, meet, not_run, run};
 use std::alloc::Global;
 use std::test::Fail;
 use std::thread::Threads;
@@ -57,12 +57,53 @@ fn meet_flow(
     items: &str,
     flow: Flow<'_>,
 ) -> Result<(), Fail> {
-    let (main, case) = match flow {
+    for words in [SEQ, ROUNDS] {
+        meet_by(rt, alloc, words, items, flow)?;
+    }
+    Ok(())
+}
+
+/// Whether a flow behind these definitions comes to this, by one command.
+pub fn comes(
+    rt: &(impl Threads + Sync),
+    alloc: Global,
+    words: &'static [&'static str],
+    items: &str,
+    flow: Flow<'_>,
+) -> Result<bool, Fail> {
+    let (main, case) = of_flow(flow);
+    let script = format!(in alloc; "muesli 1;\n{items}main = {main};\n")?;
+    let left = run(rt, alloc, words, script.as_str(), case.input, &WORKING)?;
+    Ok(
+        (left.status.code(), left.out.held(), left.err.held())
+            == (case.code, case.out, case.message),
+    )
+}
+
+/// Runs a flow behind these definitions, by one command.
+pub fn meet_by(
+    rt: &(impl Threads + Sync),
+    alloc: Global,
+    words: &'static [&'static str],
+    items: &str,
+    flow: Flow<'_>,
+) -> Result<(), Fail> {
+    let (main, case) = of_flow(flow);
+    let script = format!(in alloc; "muesli 1;\n{items}main = {main};\n")?;
+    let case = Case {
+        words,
+        script: script.as_str(),
+        ..case
+    };
+    meet(rt, alloc, &case)
+}
+
+// The main stage, and the case but for the words and the script.
+fn of_flow<'a>(flow: Flow<'a>) -> (&'a str, Case<'a>) {
+    match flow {
         Flow::Done(main, input, out) => (main, case_of(input, out, b"", 0)),
         Flow::Faults(main, input, out, message) => (main, case_of(input, out, message, 1)),
-    };
-    let script = format!(in alloc; "muesli 1;\n{items}main = {main};\n")?;
-    meet_by_both(rt, alloc, script.as_str(), &case)
+    }
 }
 
 fn case_of<'a>(input: &'a [u8], out: &'a [u8], message: &'a [u8], code: u8) -> Case<'a> {
@@ -72,21 +113,4 @@ fn case_of<'a>(input: &'a [u8], out: &'a [u8], message: &'a [u8], code: u8) -> C
         code,
         ..not_run("", message)
     }
-}
-
-fn meet_by_both(
-    rt: &(impl Threads + Sync),
-    alloc: Global,
-    script: &str,
-    case: &Case<'_>,
-) -> Result<(), Fail> {
-    for words in [SEQ, ROUNDS] {
-        let case = Case {
-            words,
-            script,
-            ..*case
-        };
-        meet(rt, alloc, &case)?;
-    }
-    Ok(())
 }

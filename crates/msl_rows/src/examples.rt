@@ -1,5 +1,5 @@
-//! The scripts of the folder `examples`, what `check` makes of them, and for those that `seq` and `rounds` run their
-//! records and results.
+//! The scripts of the folder `examples`, with their records and results by `seq` and by `rounds`, and what `check` makes
+//! of them.
 
 use msl_fixture::{Row, is_checked, meet_both};
 use std::test::Fail;
@@ -158,6 +158,12 @@ const RUN: &[Row<'static>] = &[
     Row::Done(PAIRS, b"1\n2\n3\n", b"1 2\n3\n"),
     Row::Done(FARM, b"3\n-4\n5\n", b"9\n16\n25\n"),
     Row::Done(PIPE, b"2 3\n-1 4\n", b"5 11 10\n3 -1 -6\n"),
+    Row::Done(RANGE, b"0 10\n0 0\n5 9\n", b"45\n0\n26\n"),
+    Row::Done(
+        PICK,
+        b"0 0 0 7\n0 0 0 16\n0 0 0 0\n",
+        b"9 3 9 7 7\n\n0 0 0 0 0\n",
+    ),
 ];
 
 #[test]

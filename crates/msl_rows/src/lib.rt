@@ -1,16 +1,16 @@
 //! Tests of the whole program, as tables over `muesli_plain` with objects in memory: what is written, the message, the
-//! status, and that nothing was read where nothing is run. Pipes, farms and filters are in `msl_rounds_rows`.
+//! status, and that nothing was read where nothing is run. Pipes, farms, filters, divisions and
+//! searches are in `msl_rounds_rows`.
 //!
 //! - `rows`, `scripts`: commands, scripts of functions, inputs and what comes of them. `examples`,
-//!   `examples_of_data`: the scripts of the folder `examples`, with their records and results, and what `check` makes of
-//!   each.
+//!   `examples_of_data`, `examples_of_trees`: the scripts of the folder `examples`, with their records and results, and
+//!   what `check` makes of each.
 //! - `faults`: each read, write and flush fails in turn, and is told behind the beginning of the results; a failing
 //!   fetch; a message that can't be written; what failed isn't tried again.
 //! - `messages`: the message and the number of each status. `asked`: which files the library was asked for.
 //! - `programs`: data programs, their faults, and that neither blocks nor members change what they give. `moves`,
 //!   `matrices`: the same of those that move numbers and blocks, and of those with matrices.
-//! - `refusals`, `limits`, `unbuilt`: texts that are no script, scripts, lines and records at the limits and one above,
-//!   and main stages that nothing runs.
+//! - `refusals`, `limits`: texts that are no script, and scripts, lines and records at the limits and one above.
 //! - `checks`: what `check` writes, and that it refuses what `seq` refuses.
 #![tactic(auto)]
 
@@ -22,6 +22,8 @@ mod checks;
 mod examples;
 #[cfg(test)]
 mod examples_of_data;
+#[cfg(test)]
+mod examples_of_trees;
 #[cfg(test)]
 mod faults;
 #[cfg(test)]
@@ -40,5 +42,3 @@ mod refusals;
 mod rows;
 #[cfg(test)]
 mod scripts;
-#[cfg(test)]
-mod unbuilt;

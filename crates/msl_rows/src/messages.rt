@@ -9,7 +9,7 @@ use std::process::Abort;
 use std::test::Fail;
 
 // These tables are no references: a constant can't borrow what may hold a path.
-const TOLD: [(Status, u8, &str); 9] = [
+const TOLD: [(Status, u8, &str); 8] = [
     (Status::Done, 0, ""),
     (
         Status::Usage,
@@ -23,7 +23,6 @@ const TOLD: [(Status, u8, &str); 9] = [
         2,
         "muesli: script: long name at 1048512\n",
     ),
-    (Status::Unbuilt, 2, "muesli: not built yet\n"),
     (Status::Read, 3, "muesli: read fault\n"),
     (Status::Write, 3, "muesli: write fault\n"),
     (Status::Memory, 4, "muesli: out of memory\n"),

@@ -15,15 +15,14 @@ use Rattle.msl_program.specs.Script.{Script}
 use Rattle.msl_program.specs.Runs.{RunsMain, SeqRuns}
 use Rattle.msl_grammar.specs.ScriptGrammar.{ReadsAs, ReadsTo}
 use Rattle.msl_grammar.proofs.Texts.{computed}
-use Rattle.msl_line.specs.Built.{IsBuilt}
 use Rattle.msl_stage.specs.Endings.{Ends, RanTold as EndedTold}
 use Rattle.msl_run.specs.declared.status.Status.{Status}
-use Rattle.msl_run.specs.declared.status.Status.TheVariants.{Done, Usage, Library, ScriptLong, Script as Refused, Unbuilt, Stream as Faulted, Read, Write, Memory}
+use Rattle.msl_run.specs.declared.status.Status.TheVariants.{Done, Usage, Library, ScriptLong, Script as Refused, Stream as Faulted, Read, Write, Memory}
 use Rattle.msl_run.specs.Causes.{Causes, Rises, Count}
 use Rattle.msl_run.specs.Headline.{end_of}
 use Rattle.msl_run.specs.Scripts.{IsScriptOf}
 use Rattle.msl_run.specs.Statuses.{Flushed, IsComplete}
-use Rattle.msl_run.specs.TopCall.{check_text, CanRun, Checks, GaveUp, HasScript, IsRunnable, IsUntouched, OfCommand, OfFile, OfReading, OfText, Runs, Wrote}
+use Rattle.msl_run.specs.TopCall.{check_text, Checks, GaveUp, HasScript, IsRunnable, IsUntouched, OfCommand, OfFile, OfReading, OfText, Runs, Wrote}
 use Rattle.msl_run.specs.declared.words.Command.{Command}
 use Rattle.msl_run.specs.declared.words.Command.TheVariants.{Seq, Rounds, Check}
 
@@ -61,7 +60,6 @@ module _ (says : Script → Ends → Status → Type 0) where
   without_script file e Read (text, is, why) same = absurd why
   without_script file e Write (text, is, why) same = absurd why
   without_script file e Usage (text, is, why) same = absurd why
-  without_script file e Unbuilt (text, is, why) same = absurd why
 
 -- ---- what was fetched
 
@@ -103,7 +101,6 @@ module _ (lib src out : Count) (l : Rises lib → ⊥) (r : Rises src → ⊥) (
   ran_complete P Usage cause ran = absurd ran
   ran_complete P ScriptLong cause ran = absurd ran
   ran_complete P (Refused kind at) cause ran = absurd ran
-  ran_complete P Unbuilt cause ran = absurd ran
 
   wrote_complete : (s : Script) (held now : Option (List ℕ)) (status : Status) → Causes status lib src out → Wrote s held now status → IsComplete status
   wrote_complete s held now Done cause wrote = tt
@@ -113,7 +110,6 @@ module _ (lib src out : Count) (l : Rises lib → ⊥) (r : Rises src → ⊥) (
   wrote_complete s held now Library cause wrote = absurd wrote
   wrote_complete s held now ScriptLong cause wrote = absurd wrote
   wrote_complete s held now (Refused kind at) cause wrote = absurd wrote
-  wrote_complete s held now Unbuilt cause wrote = absurd wrote
   wrote_complete s held now (Faulted f) cause wrote = absurd wrote
   wrote_complete s held now Read cause wrote = absurd wrote
 
@@ -122,9 +118,8 @@ module _ (lib src out : Count) (l : Rises lib → ⊥) (r : Rises src → ⊥) (
     gave_up_complete (inl is, same) = absurd (l (subst (λ s. Causes s lib src out) is cause).0)
     gave_up_complete (inr is, same) = subst IsComplete (sym is) tt
 
-    run_complete : (means : Script → Stream → Stream → Type 0) (s : Script) → IsBuilt s.main → Runs means s e status → IsComplete status
-    run_complete means s built (inl ran) = ran_complete (EndedTold (means s) e) status cause ran.1
-    run_complete means s built (inr other) = absurd (other.0 built)
+    run_complete : (means : Script → Stream → Stream → Type 0) (s : Script) → Runs means s e status → IsComplete status
+    run_complete means s ran = ran_complete (EndedTold (means s) e) status cause ran
 
     check_complete : (s : Script) → Checks s e status → IsComplete status
     check_complete s checks = wrote_complete s e.held e.held_now status cause checks.1
@@ -137,11 +132,11 @@ module _ (lib src out : Count) (l : Rises lib → ⊥) (r : Rises src → ⊥) (
         let r = of_short_text says text e status short (subst (λ t. OfText says t e status) same h) in
         so (subst (λ t. OfReading says t e status) (sym (computed r.1) ∙ computed reads) r.2)
 
-    of_run : (means : Script → Stream → Stream → Type 0) (file : Option (List ℕ)) → HasScript file CanRun → OfFile (Runs means) file e status → IsComplete status
-    of_run means file (text, s, told, short, is, built) ran = of_script (Runs means) file text s told short is (run_complete means s built) ran
+    of_run : (means : Script → Stream → Stream → Type 0) (file : Option (List ℕ)) → HasScript file → OfFile (Runs means) file e status → IsComplete status
+    of_run means file (text, s, told, short, is) ran = of_script (Runs means) file text s told short is (run_complete means s) ran
 
     pub complete : (command : Option Command) (file : List ℕ → Option (List ℕ)) → OfCommand command file e status → IsRunnable command file → IsComplete status
     complete None file ran runnable = absurd runnable
     complete (Some (Seq name)) file ran runnable = of_run SeqRuns (file name) runnable ran
     complete (Some (Rounds name)) file ran runnable = of_run RunsMain (file name) runnable ran
-    complete (Some (Check name)) file ran (text, s, told, short, is, any) = of_script Checks (file name) text s told short is (check_complete s) ran
+    complete (Some (Check name)) file ran (text, s, told, short, is) = of_script Checks (file name) text s told short is (check_complete s) ran

@@ -6,7 +6,7 @@ use Rattle.msl_program.specs.Script.{Script}
 use Rattle.msl_grammar.specs.ScriptGrammar.{ReadsTo}
 use Rattle.msl_run.specs.Causes.{Count, Rises, Stays}
 use Rattle.msl_run.specs.declared.status.Status.{Status}
-use Rattle.msl_run.specs.declared.status.Status.TheVariants.{Done, Usage, Library, ScriptLong, Script as Refused, Unbuilt, Stream as Faulted, Read, Write, Memory}
+use Rattle.msl_run.specs.declared.status.Status.TheVariants.{Done, Usage, Library, ScriptLong, Script as Refused, Stream as Faulted, Read, Write, Memory}
 
 -- the script of a text, or why there is none
 abbrev pub IsScriptIn : List ℕ → Result Script Status → Type 0
@@ -17,7 +17,6 @@ IsScriptIn text (Err Library) = ⊤
 IsScriptIn text (Err Memory) = ⊤
 IsScriptIn text (Err Done) = ⊥
 IsScriptIn text (Err Usage) = ⊥
-IsScriptIn text (Err Unbuilt) = ⊥
 IsScriptIn text (Err (Faulted f)) = ⊥
 IsScriptIn text (Err Read) = ⊥
 IsScriptIn text (Err Write) = ⊥
@@ -35,7 +34,6 @@ Declines (Err (Refused kind at)) c = Stays c
 Declines (Err Memory) c = Stays c
 Declines (Err Done) c = ⊥
 Declines (Err Usage) c = ⊥
-Declines (Err Unbuilt) c = ⊥
 Declines (Err (Faulted f)) c = ⊥
 Declines (Err Read) c = ⊥
 Declines (Err Write) c = ⊥

@@ -4,7 +4,7 @@ use Rattle.msl_stage.specs.Endings.{IsHandedOn as HandsOn}
 use Rattle.msl_io.specs.Causes.{Rose}
 use Rattle.msl_run.specs.Headline.{end_of}
 use Rattle.msl_run.specs.declared.status.Status.{Status}
-use Rattle.msl_run.specs.declared.status.Status.TheVariants.{Done, Usage, Library, ScriptLong, Script, Unbuilt, Stream, Read, Write, Memory}
+use Rattle.msl_run.specs.declared.status.Status.TheVariants.{Done, Usage, Library, ScriptLong, Script, Stream, Read, Write, Memory}
 
 -- the words, the script or the library keep a run from beginning
 abbrev pub IsRefusal : Status → Type 0
@@ -29,7 +29,6 @@ IsComplete Usage = ⊥
 IsComplete Library = ⊥
 IsComplete ScriptLong = ⊥
 IsComplete (Script kind at) = ⊥
-IsComplete Unbuilt = ⊥
 
 -- the exit status of the program
 abbrev pub code_of : Status → ℕ
@@ -38,7 +37,6 @@ code_of (Stream f) = 1
 code_of Usage = 2
 code_of ScriptLong = 2
 code_of (Script kind at) = 2
-code_of Unbuilt = 2
 code_of Library = 3
 code_of Read = 3
 code_of Write = 3

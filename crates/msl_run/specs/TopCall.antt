@@ -13,13 +13,12 @@ use Rattle.msl_program.specs.Need.{need}
 use Rattle.msl_program.specs.Runs.{RunsMain, SeqRuns}
 use Rattle.msl_grammar.specs.ScriptGrammar.{ReadsAs, ReadsTo}
 use Rattle.msl_script_print.specs.ScriptText.{script_bits}
-use Rattle.msl_line.specs.Built.{IsBuilt}
 use Rattle.msl_stage.specs.Endings.{Ends}
 use Rattle.msl_run.specs.Headline.{RanTold}
 use Rattle.msl_run.specs.declared.words.Command.{Command}
 use Rattle.msl_run.specs.declared.words.Command.TheVariants.{Seq, Rounds, Check}
 use Rattle.msl_run.specs.declared.status.Status.{Status}
-use Rattle.msl_run.specs.declared.status.Status.TheVariants.{Done, Usage, Library, ScriptLong, Script as Refused, Unbuilt, Stream as Faulted, Read, Write, Memory}
+use Rattle.msl_run.specs.declared.status.Status.TheVariants.{Done, Usage, Library, ScriptLong, Script as Refused, Stream as Faulted, Read, Write, Memory}
 
 -- ---- the words
 
@@ -47,10 +46,9 @@ command _ = None
 abbrev pub IsUntouched : Ends → Type 0
 IsUntouched e = (e.left_now ≡ e.left) × (e.held_now ≡ e.held)
 
--- A run of a script: what it left behind, where its main stage holds no division and no search. `means` relates the
--- script to what it may make of a stream.
+-- A run of a script: what it left behind. `means` relates the script to what it may make of a stream.
 abbrev pub Runs : (Script → Stream → Stream → Type 0) → Script → Ends → Status → Type 0
-Runs means s e status = (IsBuilt s.main × RanTold (means s) e status) ⊎ ((IsBuilt s.main → ⊥) × (status ≡ Unbuilt) × IsUntouched e)
+Runs means s e status = RanTold (means s) e status
 
 -- what `check` writes of a script: its canonical text, and how many processes it needs
 abbrev pub check_text : Script → List ℕ
@@ -65,7 +63,6 @@ Wrote s held now Usage = ⊥
 Wrote s held now Library = ⊥
 Wrote s held now ScriptLong = ⊥
 Wrote s held now (Refused kind at) = ⊥
-Wrote s held now Unbuilt = ⊥
 Wrote s held now (Faulted f) = ⊥
 Wrote s held now Read = ⊥
 
@@ -123,15 +120,12 @@ AsksFor (Some (Rounds name)) before now = IsAsked name before now
 AsksFor (Some (Check name)) before now = IsAsked name before now
 
 -- a file that is told, is not too long and reads as a script
-abbrev pub HasScript : Option (List ℕ) → (Script → Type 0) → Type 0
-HasScript file P = (text : List ℕ) × (s : Script) × (file ≡ Some text) × (length text ≤ MOST_SCRIPT_BYTES) × ReadsAs text s × P s
+abbrev pub HasScript : Option (List ℕ) → Type 0
+HasScript file = (text : List ℕ) × (s : Script) × (file ≡ Some text) × (length text ≤ MOST_SCRIPT_BYTES) × ReadsAs text s
 
-abbrev pub CanRun : Script → Type 0
-CanRun s = IsBuilt s.main
-
--- the command is on such a file; to run it has to be built
+-- the command is on such a file
 abbrev pub IsRunnable : Option Command → (List ℕ → Option (List ℕ)) → Type 0
 IsRunnable None file = ⊥
-IsRunnable (Some (Seq name)) file = HasScript (file name) CanRun
-IsRunnable (Some (Rounds name)) file = HasScript (file name) CanRun
-IsRunnable (Some (Check name)) file = HasScript (file name) (λ s. Unit {0})
+IsRunnable (Some (Seq name)) file = HasScript (file name)
+IsRunnable (Some (Rounds name)) file = HasScript (file name)
+IsRunnable (Some (Check name)) file = HasScript (file name)

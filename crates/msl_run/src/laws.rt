@@ -9,7 +9,7 @@ use msl_io::{Library, Sink, SteadySource};
 use std::alloc::Global;
 use std::thread::Threads;
 
-/// Over a source that never fails, a script that is told and can be run ends as its stream does, or memory ran out,
+/// Over a source that never fails, a script that is told ends as its stream does, or memory ran out,
 /// unless the library or the sink counts a fault.
 pub fn steady_source<R: Threads + Sync, L: Library, K: Sink, E: Sink>(
     rt: &R,

@@ -7,7 +7,7 @@
 //! - After `Done`, `Stream` and `Read` all that was written is flushed (`flushed`); at a refusal nothing was touched
 //!   (`untouched`), nor the source at `check` (`unread`); the library was asked for the command's file alone (`asked`).
 //! - A fault of the outside is answered where an object counted one, and nowhere else (`cause`, by `Causes`); where none
-//!   does and a script that is told can be run, the answer is `Done`, `Stream` or `Memory` (`complete`, used in `laws`);
+//!   does and there is a script that is told, the answer is `Done`, `Stream` or `Memory` (`complete`, used in `laws`);
 //!   the error output grew by the message, and was flushed (`message`).
 //! - `command_of` is exactly the commands (`ok`), `tell` writes the message of a status (`Messages`), `Status::code` is
 //!   the exit status, `Status::of_end` the status of a run by its ending.

@@ -47,7 +47,6 @@ fn message(status: &Status) -> Piece
         Status::Library => line(b"cannot read script"),
         Status::ScriptLong => line(b"script too long"),
         Status::Script(kind, at) => script_message(*kind, *at),
-        Status::Unbuilt => line(b"not built yet"),
         Status::Stream(fault) => fault_message(*fault),
         Status::Read => line(b"read fault"),
         Status::Write => line(b"write fault"),

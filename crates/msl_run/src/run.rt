@@ -16,7 +16,7 @@ use crate::words::{Command, Words, WordsFault, command_of};
 use msl_base::NoMemory;
 use msl_base::limits::MOST_SCRIPT_BYTES;
 use msl_io::{Fetched, Library, Piece, Sink, Source, WriteFault, write_text};
-use msl_line::{How, is_built, line_of};
+use msl_line::{How, line_of};
 use msl_script::{Script, ScriptFault, need, print_script, read_script};
 use msl_stage::run_rounds;
 use std::alloc::Global;
@@ -28,14 +28,13 @@ use std::thread::Threads;
 /// to wait for what they were given, at `rounds` alone.
 ///
 /// `seq` makes of the stream what `SeqRuns` says, with the results in the order of the input; `rounds` what `RunsMain`
-/// says, which leaves the order of a farm's results open.
+/// says, which leaves the order of a farm's results open, and which of several best solutions a search gives.
 ///
 /// `Usage` comes exactly where the words are no command. Of the script's file, `ScriptLong` comes where it has more than
-/// 1,048,576 bytes, else `Script` where it is no script, with the first test that fails and its place, else, at `seq`
-/// and `rounds`, `Unbuilt` where its main stage holds a division or a search: there nothing else comes but `Library` and
-/// `Memory`, and none of the three comes anywhere else. `Library`, `Read` and `Write` come only where the object counted a
-/// fault in this call, and `Memory` where memory ran out, which no clause says. No fault is passed over: a count rises at
-/// these alone.
+/// 1,048,576 bytes, else `Script` where it is no script, with the first test that fails and its place: there nothing else
+/// comes but `Library` and `Memory`, and neither comes anywhere else. `Library`, `Read` and `Write` come only where the
+/// object counted a fault in this call, and `Memory` where memory ran out, which no clause says. No fault is passed over:
+/// a count rises at these alone.
 ///
 /// The clause `ran` says what was read and written at each answer. Where the library doesn't tell its files it speaks of
 /// some text, and where the sink doesn't tell its bytes of some that were written. Where the source doesn't tell its
@@ -127,9 +126,8 @@ fn run_script<R: Threads + Sync, S: Source, K: Sink>(
     ensures untouched { IsRefusal result → (src.new ≡ src.old) × (out.new ≡ out.old) }
     ensures cause { Causes result (count 0 0) (count (S.faults src.old) (S.faults src.new)) (count (K.faults out.old) (K.faults out.new)) }
 {
-    if !is_built(script.main()) {
-        return Status::Unbuilt;
-    }
+    // Its main stage names only what is there, which the ending for want of memory rests on.
+    script.main();
     let Ok(line) = line_of(alloc, script, how) else {
         return Status::Memory;
     };

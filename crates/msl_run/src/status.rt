@@ -20,8 +20,6 @@ pub enum Status {
     /// The text is no script: the first test that fails, and the place in bytes at which the token begins that it
     /// names.
     Script(Kind, u32),
-    /// At `seq` and `rounds`, the script's main stage holds a division or a search.
-    Unbuilt,
     /// The stream ended with this fault.
     Stream(Fault),
     /// The source failed.
@@ -56,7 +54,7 @@ impl Status {
         match self {
             Status::Done => 0,
             Status::Stream(_) => 1,
-            Status::Usage | Status::ScriptLong | Status::Script(..) | Status::Unbuilt => 2,
+            Status::Usage | Status::ScriptLong | Status::Script(..) => 2,
             Status::Library | Status::Read | Status::Write => 3,
             Status::Memory => 4,
         }

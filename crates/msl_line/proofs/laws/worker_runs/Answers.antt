@@ -1,5 +1,5 @@
-use Rattle.msl_line.proofs.Outcomes.{does_one, does_seq}
+use Rattle.msl_line.proofs.Outcomes.{does_means}
 use Rattle.msl_line.proofs.laws.worker_runs.Goals as goal
 
 pub returns : goal.returns
-returns c = λ s st fits built k x r d. (does_one s k st fits built x r d, does_seq s k st fits built x r d)
+returns g c = λ how s st fits k x r d. does_means s how k st fits x r d

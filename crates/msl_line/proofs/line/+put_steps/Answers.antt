@@ -1,14 +1,12 @@
-use Rattle.std.proofs.Common.{◌≡◌, ◌+◌, ◌++◌, true, false, List, [], ◌∷◌, drop, append_assoc, append-nil, arith, ap, sym, refl, ◌∙◌, subst}
+use Rattle.std.proofs.Common.{◌+◌, ◌++◌, true, false, List, [], ◌∷◌, drop, append_assoc, append-nil, arith, ap, sym, refl, ◌∙◌, subst}
 use Rattle.msl_program.specs.declared.stage.Stage.{Stage}
 use Rattle.msl_program.specs.Stages.{row, primitives_of, primitives_in}
 use Rattle.msl_program.specs.Fitting.{Fits, AllFit}
 use Rattle.msl_program.specs.ScriptPromise.{IsSized, AreSized, height, greatest_height}
 use Rattle.msl_program.proofs.Needs.{sized-farm, sized-pipe, height-pipe, next}
-use Rattle.msl_line.specs.Built.{is_built, are_built, IsBuilt}
 use Rattle.msl_line.specs.Lines.{duties_of, farm_step, IsLineOf, IsLineThrough}
-use Rattle.msl_line.proofs.Outcomes.{both}
 use Rattle.msl_line.proofs.Runs.{Steps}
-use Rattle.msl_line.proofs.Parts.{fits-farm, fits-pipe, built-pipe, primitives-farm, primitives-pipe, none_through, line-farm, line-pipe}
+use Rattle.msl_line.proofs.Parts.{fits-farm, fits-pipe, primitives-farm, primitives-pipe, none_through, line-farm, line-pipe}
 use Rattle.msl_line.proofs.line.+put_steps.Goals as goal
 
 -- ---- a farm
@@ -37,7 +35,6 @@ loop-stage-init g t c =
     let same = c.as_slice-stage-items.ensures in
     record {
       fits = subst (λ (ss : List Stage). AllFit s false (row ss)) (sym same) (fits-pipe s false sts (subst (Fits s false) c.in-Pipe.is c.requires.fits));
-      built = ap (λ (ss : List Stage). are_built (row ss)) same ∙ sym (built-pipe sts) ∙ subst IsBuilt c.in-Pipe.is c.requires.built;
       sized = subst (λ (ss : List Stage). AreSized (row ss)) (sym same) (sized-pipe sts (subst IsSized c.in-Pipe.is c.requires.sized));
       few = omega (arith, c.requires.few, ap primitives_of c.in-Pipe.is, primitives-pipe sts, ap (λ (ss : List Stage). primitives_in (row ss)) same);
       lower = omega (arith, ap height c.in-Pipe.is, height-pipe sts, ap (λ (ss : List Stage). greatest_height (row ss)) same);
@@ -67,13 +64,11 @@ loop-stage-preserved g t c =
     let left = drop (c.loop-stage.stage-index + 1) c.as_slice-stage-items.result.now in
     let is = next c.as_slice-stage-items.result.now c.loop-stage.stage-index c.stage-item.result c.loop-stage-test.true c.stage-item.is in
     let fits = subst (λ (ss : List Stage). AllFit s false (row ss)) is c.loop-stage.invariant.fits in
-    let built = both (is_built c.stage-item.result) (are_built (row left)) (subst (λ (ss : List Stage). are_built (row ss) ≡ true) is c.loop-stage.invariant.built) in
     let sized = subst (λ (ss : List Stage). AreSized (row ss)) is c.loop-stage.invariant.sized in
     let before = c.loop-stage.invariant.all in
     let more = c.in_ok-put_steps-in-Pipe.ensures in
     record {
       fits = fits.1;
-      built = built.1;
       sized = sized.1;
       few = omega (arith, c.loop-stage.invariant.few, ap (λ (ss : List Stage). primitives_in (row ss)) is);
       lower = omega (arith, c.loop-stage.invariant.lower, ap (λ (ss : List Stage). greatest_height (row ss)) is);
@@ -102,9 +97,9 @@ returns-in_ok-push-in-Farm g t c =
     let how = c.args.how in
     let k = c.args.number in
     let st = c.in-Farm.stage in
-    let one = farm_step how c.in-Farm.count (duties_of s k st) in (
+    let one = farm_step how c.in-Farm.count (duties_of how s k st) in (
       one ∷ [],
-      c.in_ok-push-in-Farm.ensures.items ∙ ap (λ t. c.args.line.now.items ++ t ∷ []) (c.in_ok-farm_of-in-Farm.ensures ∙ ap (λ (u : Stage). farm_step how c.in-Farm.count (duties_of s k u)) c.get.ensures),
+      c.in_ok-push-in-Farm.ensures.items ∙ ap (λ t. c.args.line.now.items ++ t ∷ []) (c.in_ok-farm_of-in-Farm.ensures ∙ ap (λ (u : Stage). farm_step how c.in-Farm.count (duties_of how s k u)) c.get.ensures),
       subst (λ (u : Stage). IsLineOf how s k u (one ∷ [])) (sym c.in-Farm.is) (line-farm how s k c.in-Farm.count st),
     )
 
@@ -114,9 +109,8 @@ put_steps-requires g t c =
     let left = drop (c.loop-stage.stage-index + 1) c.as_slice-stage-items.result.now in
     let is = next c.as_slice-stage-items.result.now c.loop-stage.stage-index c.stage-item.result c.loop-stage-test.true c.stage-item.is in
     let fits = subst (λ (ss : List Stage). AllFit s false (row ss)) is c.loop-stage.invariant.fits in
-    let built = both (is_built c.stage-item.result) (are_built (row left)) (subst (λ (ss : List Stage). are_built (row ss) ≡ true) is c.loop-stage.invariant.built) in
     let sized = subst (λ (ss : List Stage). AreSized (row ss)) is c.loop-stage.invariant.sized in
     λ κs lives. (
       omega (arith, c.loop-stage.invariant.lower, ap (λ (ss : List Stage). greatest_height (row ss)) is),
-      (lives, (fits.0, (built.0, (sized.0, omega (arith, c.loop-stage.invariant.few, ap (λ (ss : List Stage). primitives_in (row ss)) is))))),
+      (lives, (fits.0, (sized.0, omega (arith, c.loop-stage.invariant.few, ap (λ (ss : List Stage). primitives_in (row ss)) is)))),
     )

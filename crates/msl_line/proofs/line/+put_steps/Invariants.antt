@@ -1,9 +1,8 @@
-use Rattle.std.proofs.Common.{◌≡◌, ◌<◌, ◌≤◌, ◌+◌, ◌++◌, true, false, drop}
+use Rattle.std.proofs.Common.{◌≡◌, ◌<◌, ◌≤◌, ◌+◌, ◌++◌, false, drop}
 use Rattle.msl_base.specs.declared.limits.TheConstants.{MOST_PRIMITIVES}
 use Rattle.msl_program.specs.Stages.{row, primitives_in}
 use Rattle.msl_program.specs.Fitting.{AllFit}
 use Rattle.msl_program.specs.ScriptPromise.{AreSized, height, greatest_height}
-use Rattle.msl_line.specs.Built.{are_built}
 use Rattle.msl_line.specs.Lines.{IsLineOf, IsLineThrough}
 use Rattle.msl_line.proofs.Runs.{Steps}
 use Rattle.msl_line.proofs.line.+put_steps.Given as goal
@@ -15,7 +14,6 @@ decreases-put_steps g l = height l.stage.now
 abbrev pub invariant-loop-stage : goal.invariant-loop-stage
 invariant-loop-stage g l = record {
   fits : AllFit l.fn.script false (row (drop l.stage-index l.stage-items));
-  built : are_built (row (drop l.stage-index l.stage-items)) ≡ true;
   sized : AreSized (row (drop l.stage-index l.stage-items));
   few : l.number + primitives_in (row (drop l.stage-index l.stage-items)) ≤ MOST_PRIMITIVES + 1;
   lower : greatest_height (row (drop l.stage-index l.stage-items)) < height l.fn.stage;

@@ -20,4 +20,4 @@ returns-clause-runs g c = λ X Y l.
     let put = c.in_ok-put_steps.ensures in
     let all = put.1 ∙ ap (λ (ss : Steps). ss ++ put.0) c.new-line.ensures.items in
     let is = subst (λ (st : Stage). IsLineOf c.args.how s 1 st put.0) c.main.ensures.main put.2 in
-    line_means s c.args.how 1 s.main put.0 X Y c.main.ensures.whole c.requires is (subst (λ (ss : Steps). LineRuns Does s.funs ss X Y) all l)
+    line_means s c.args.how 1 s.main put.0 X Y c.main.ensures.whole is (subst (λ (ss : Steps). LineRuns Does s.funs ss X Y) all l)

@@ -1,0 +1,6 @@
+use Rattle.std.proofs.Common.{◌^◌, ◌≤◌, arith}
+use Rattle.std.proofs.Math.Pow.{pow_mono}
+use Rattle.msl_base.proofs.code.field_size.Goals as goal
+
+pub returns-clause-few : goal.returns-clause-few
+returns-clause-few c = let few : 2 ^ c.args.bits ≤ 2 ^ 6 = pow_mono c.requires in omega (arith, few)

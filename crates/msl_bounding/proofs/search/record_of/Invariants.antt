@@ -1,0 +1,7 @@
+use Rattle.std.proofs.Common.{◌≡◌, ◌∷◌, take}
+use Rattle.msl_bounding.proofs.search.record_of.Given as goal
+
+abbrev pub invariant-loop-y : goal.invariant-loop-y
+invariant-loop-y l = record {
+  numbers : l.r.numbers ≡ l.fn.value ∷ take l.y-index l.x;
+}

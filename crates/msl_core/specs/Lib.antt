@@ -1,0 +1,4 @@
+pub mod Groups
+pub mod Outcomes
+pub mod Stored
+pub mod Worlds

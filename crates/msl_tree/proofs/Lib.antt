@@ -1,0 +1,4 @@
+pub mod Found
+pub mod Values
+pub mod Combining
+pub mod Joined

@@ -1,0 +1,5 @@
+pub mod Lists
+pub mod Combined
+pub mod Replays
+pub mod ByPath
+pub mod Covered
