@@ -31,12 +31,12 @@ records() {
 
 # Whether a run writes the results.
 writes() {
-    "$program" "$1" "$script" <"$work/records.$2" | cmp - "$work/results.$2"
+    "$program" $1 "$script" <"$work/records.$2" | cmp - "$work/results.$2"
 }
 
-# The seconds and the peak memory in KiB of a run.
+# The seconds and the peak memory in KiB of a run. The words of its command stand apart.
 costs() {
-    env time -q -f '%e %M' -o "$work/costs" "$program" "$1" "$script" <"$work/records.$2" >/dev/null
+    env time -q -f '%e %M' -o "$work/costs" "$program" $1 "$script" <"$work/records.$2" >/dev/null
     cat "$work/costs"
 }
 
@@ -47,7 +47,7 @@ is_flat() {
 for n in 10000 1000000; do
     records "$n"
 done
-for command in seq rounds; do
+for command in seq 'rounds -p 8'; do
     holds "$command, results of 1,000,000 records" writes "$command" 1000000
     read -r _ few <<<"$(costs "$command" 10000)"
     read -r seconds many <<<"$(costs "$command" 1000000)"

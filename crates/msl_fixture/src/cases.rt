@@ -15,7 +15,8 @@ pub const KNOWN: &str =
 
 pub const SEQ: &[&str] = &["seq", "script"];
 
-pub const ROUNDS: &[&str] = &["rounds", "script"];
+/// As many processes as there can be, so that none but the largest scripts are refused.
+pub const ROUNDS: &[&str] = &["rounds", "-p", "64", "script"];
 
 pub const CHECK: &[&str] = &["check", "script"];
 
@@ -50,7 +51,7 @@ pub fn not_run<'a>(script: &'a str, message: &'a [u8]) -> Case<'a> {
 pub fn meet(rt: &(impl Threads + Sync), alloc: Global, case: &Case<'_>) -> Result<(), Fail> {
     let mut left = run(rt, alloc, case.words, case.script, case.input, &WORKING)?;
     is_left(&left, case)?;
-    if case.code >= 2 || case.words == CHECK {
+    if case.code >= 2 || !reads(case.words) {
         is_unread(&mut left.src, case)?;
     }
     Ok(())
@@ -93,6 +94,11 @@ fn last_line(script: &str) -> &str {
         Some((_, line)) => line,
         None => script,
     }
+}
+
+// Whether a command reads records.
+fn reads(words: &[&str]) -> bool {
+    matches!(words, ["seq" | "rounds", ..])
 }
 
 fn is_unread(src: &mut MemSource, case: &Case<'_>) -> Result<(), Fail> {

@@ -23,7 +23,7 @@ const RANGES: &[Flow<'static>] = &[
     Flow::Done("divcon range on 2", b"0 10\n0 0\n", b"45\n0\n"),
     Flow::Done("divcon range on 7", b"0 10\n0 0\n", b"45\n0\n"),
     Flow::Done(
-        "divcon range on 64",
+        "divcon range on 63",
         b"0 10\n0 0\n3 4\n5 9\n",
         b"45\n0\n3\n26\n",
     ),

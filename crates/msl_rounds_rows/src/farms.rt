@@ -14,7 +14,7 @@ const FARMS: &[Flow<'static>] = &[
     Flow::Done("farm 3 { atomic sq }", b"", b""),
     Flow::Done("farm 1 { atomic sq }", b"-4\n5\n", b"16\n25\n"),
     // More workers than records, and more records than workers.
-    Flow::Done("farm 64 { atomic sq }", b"1\n2\n3\n", b"1\n4\n9\n"),
+    Flow::Done("farm 63 { atomic sq }", b"1\n2\n3\n", b"1\n4\n9\n"),
     Flow::Done(
         "farm 2 { atomic mix }",
         b"2 3\n-1 4\n0 0\n7 -7\n1 1\n",

@@ -15,7 +15,7 @@ const PICKS: &[Flow<'static>] = &[
         b"9 3 9 7 7\n\n0 0 0 0 0\n",
     ),
     Flow::Done("bnb pick on 7", b"0 0 0 7\n0 0 0 16\n", b"9 3 9 7 7\n\n"),
-    Flow::Done("bnb pick on 64", b"0 0 0 7\n0 0 0 16\n", b"9 3 9 7 7\n\n"),
+    Flow::Done("bnb pick on 63", b"0 0 0 7\n0 0 0 16\n", b"9 3 9 7 7\n\n"),
     Flow::Done(
         "farm 2 { bnb pick on 3 }",
         b"0 0 0 7\n0 0 0 16\n",

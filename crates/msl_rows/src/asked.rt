@@ -17,6 +17,8 @@ const COMMANDS: &[(&[&str], &str)] = &[
     (CHECK, "muesli 2;"),
     (SEQ, UNBUILT),
     (ROUNDS, UNBUILT),
+    (&["rounds", "-p", "1", "script"], SQUARE),
+    (&["check", "-p", "1", "script"], SQUARE),
 ];
 
 #[test]
@@ -34,6 +36,15 @@ fn a_command_asks_for_its_file_once(rt: HostRuntime) -> Result<(), Fail> {
 #[test]
 fn other_words_ask_for_nothing(rt: HostRuntime) -> Result<(), Fail> {
     for &words in NO_COMMANDS {
+        let left = run(&rt, rt.alloc(), words, SQUARE, UNREAD, &WORKING)?;
+        assert!(rt; left.lib.asked().is_empty(), "{words:?}");
+    }
+    Ok(())
+}
+
+#[test]
+fn the_demonstration_asks_for_nothing(rt: HostRuntime) -> Result<(), Fail> {
+    for words in [&["demo", "2"], &["demo", "0"]] {
         let left = run(&rt, rt.alloc(), words, SQUARE, UNREAD, &WORKING)?;
         assert!(rt; left.lib.asked().is_empty(), "{words:?}");
     }

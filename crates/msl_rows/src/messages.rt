@@ -9,7 +9,7 @@ use std::process::Abort;
 use std::test::Fail;
 
 // These tables are no references: a constant can't borrow what may hold a path.
-const TOLD: [(Status, u8, &str); 8] = [
+const TOLD: [(Status, u8, &str); 9] = [
     (Status::Done, 0, ""),
     (
         Status::Usage,
@@ -22,6 +22,14 @@ const TOLD: [(Status, u8, &str); 8] = [
         Status::Script(Kind::LongName, 1_048_512),
         2,
         "muesli: script: long name at 1048512\n",
+    ),
+    (
+        Status::Need {
+            need: 262_145,
+            have: 64,
+        },
+        2,
+        "muesli: need 262145 processes, have 64\n",
     ),
     (Status::Read, 3, "muesli: read fault\n"),
     (Status::Write, 3, "muesli: write fault\n"),

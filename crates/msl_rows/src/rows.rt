@@ -68,13 +68,17 @@ pub const NO_COMMANDS: &[&[&str]] = &[
     &["rounds", ""],
     &["rounds", "-"],
     &["rounds", "-p"],
-    &["rounds", "-p", "2", "script"],
+    &["rounds", "-p", "0", "script"],
+    &["seq", "-p", "4", "script"],
     &["rounds", "script", "script"],
     &["run", "script"],
     &["seq", "script", "script"],
     &["check"],
     &["check", "-"],
     &["check", "script", "script"],
+    &["demo"],
+    &["demo", "100001"],
+    &["demo", "x"],
 ];
 
 #[test]

@@ -23,6 +23,10 @@ path_text-split (child ∷ steps) some =
 pub pieces : (m p d c a g b w e n : List ℕ) → ((((((((m ++ p) ++ d) ++ c) ++ a) ++ g) ++ b) ++ w) ++ e) ++ n ≡ m ++ ((p ++ (d ++ (c ++ (a ++ (g ++ (b ++ (w ++ e))))))) ++ n)
 pieces m p d c a g b w e n = simp append_assoc
 
+-- what a message says of the processes, piece by piece
+pub need_pieces : (m n d h p e : List ℕ) → ((((m ++ n) ++ d) ++ h) ++ p) ++ e ≡ m ++ ((n ++ (d ++ (h ++ p))) ++ e)
+need_pieces m n d h p e = simp append_assoc
+
 -- a message that was written, and then flushed or not
 pub told : {T E : Type 0} (status : Status) (h k l flushed : Option (List ℕ)) (m : List ℕ) (n0 n1 n2 : ℕ) (r : Result T E) → m ≡ message_of status → Appends h k m → n1 ≡ n0 → Keeps k l → OnOk r (flushed ≡ l) → HasCause n1 n2 r
     → Tells status h l flushed (count n0 n2)

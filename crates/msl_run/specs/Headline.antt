@@ -8,7 +8,7 @@ use Rattle.msl_base.specs.declared.fault.End.{End}
 use Rattle.msl_base.specs.declared.fault.End.TheVariants as run
 use Rattle.msl_stage.specs.Endings.{Ends, RanTold as EndedTold}
 use Rattle.msl_run.specs.declared.status.Status.{Status}
-use Rattle.msl_run.specs.declared.status.Status.TheVariants.{Done, Usage, Library, ScriptLong, Script, Stream as Faulted, Read, Write, Memory}
+use Rattle.msl_run.specs.declared.status.Status.TheVariants.{Done, Usage, Library, ScriptLong, Script, Need, Stream as Faulted, Read, Write, Memory}
 
 abbrev pub end_of : Status → Option End
 end_of Done = Some run.Done
@@ -21,6 +21,7 @@ end_of Usage = None
 end_of Library = None
 end_of ScriptLong = None
 end_of (Script kind at) = None
+end_of (Need need have) = None
 
 -- A run began, and the sink only grew. Where the source tells its bytes, what is left is an end of what was there, and
 -- `Ran` holds of the ending that the status tells.

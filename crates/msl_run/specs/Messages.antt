@@ -9,7 +9,7 @@ use Rattle.msl_lex.specs.declared.kind.Kind.{Kind}
 use Rattle.msl_lex.specs.declared.kind.Kind.TheVariants as kinds
 use Rattle.msl_run.specs.Causes.{Count as Counted, Stays, Rises}
 use Rattle.msl_run.specs.declared.status.Status.{Status}
-use Rattle.msl_run.specs.declared.status.Status.TheVariants.{Done, Usage, Library, ScriptLong, Script, Stream, Read, Write, Memory}
+use Rattle.msl_run.specs.declared.status.Status.TheVariants.{Done, Usage, Library, ScriptLong, Script, Need, Stream, Read, Write, Memory}
 
 -- what is wrong at a line, or at a stage
 abbrev pub at_line : ℕ → List ℕ → List ℕ
@@ -70,6 +70,7 @@ message_of Usage = line_of (codes "usage: muesli seq FILE, rounds FILE, run FILE
 message_of Library = line_of (codes "cannot read script")
 message_of ScriptLong = line_of (codes "script too long")
 message_of (Script kind at) = line_of (codes "script: " ++ (kind_text kind ++ (codes " at " ++ decimal at)))
+message_of (Need need have) = line_of (codes "need " ++ (decimal need ++ (codes " processes, have " ++ decimal have)))
 message_of (Stream f) = line_of (fault_text f)
 message_of Read = line_of (codes "read fault")
 message_of Write = line_of (codes "write fault")

@@ -4,9 +4,9 @@ use Rattle.msl_stage.specs.Endings.{IsHandedOn as HandsOn}
 use Rattle.msl_io.specs.Causes.{Rose}
 use Rattle.msl_run.specs.Headline.{end_of}
 use Rattle.msl_run.specs.declared.status.Status.{Status}
-use Rattle.msl_run.specs.declared.status.Status.TheVariants.{Done, Usage, Library, ScriptLong, Script, Stream, Read, Write, Memory}
+use Rattle.msl_run.specs.declared.status.Status.TheVariants.{Done, Usage, Library, ScriptLong, Script, Need, Stream, Read, Write, Memory}
 
--- the words, the script or the library keep a run from beginning
+-- the words, the script, its need or the library keep a run from beginning
 abbrev pub IsRefusal : Status → Type 0
 IsRefusal status = IfSome (end_of status) (λ _. ⊥)
 
@@ -29,6 +29,7 @@ IsComplete Usage = ⊥
 IsComplete Library = ⊥
 IsComplete ScriptLong = ⊥
 IsComplete (Script kind at) = ⊥
+IsComplete (Need need have) = ⊥
 
 -- the exit status of the program
 abbrev pub code_of : Status → ℕ
@@ -37,6 +38,7 @@ code_of (Stream f) = 1
 code_of Usage = 2
 code_of ScriptLong = 2
 code_of (Script kind at) = 2
+code_of (Need need have) = 2
 code_of Library = 3
 code_of Read = 3
 code_of Write = 3

@@ -1,6 +1,5 @@
 -- What the top call says of its words, of the script and of the run.
-use Rattle.std.specs.Prelude.{ℕ, ◌≡◌, ◌≤◌, nat_le, length, ◌⊎◌, ◌==◌, ◌++◌, decimal, not, Bool, if◌then◌else◌, false, List, [], ◌∷◌, codes, Option, Some, None, Result, Ok, Err, MatchBool, ⊤}
-use Rattle.std.specs.Str.{bytes_eq}
+use Rattle.std.specs.Prelude.{ℕ, suc, zero, ◌≡◌, ◌≤◌, nat_le, length, ◌⊎◌, ◌==◌, ◌++◌, decimal, List, [], ◌∷◌, codes, Option, Some, None, Result, Ok, Err, MatchBool, ⊤}
 use Rattle.std.specs.Io.KnownBytes.{Appends}
 use Rattle.msl_base.specs.Streams.{Stream}
 use Rattle.msl_base.specs.declared.limits.TheConstants.{MOST_SCRIPT_BYTES}
@@ -15,30 +14,12 @@ use Rattle.msl_grammar.specs.ScriptGrammar.{ReadsAs, ReadsTo}
 use Rattle.msl_script_print.specs.ScriptText.{script_bits}
 use Rattle.msl_stage.specs.Endings.{Ends}
 use Rattle.msl_run.specs.Headline.{RanTold}
-use Rattle.msl_run.specs.declared.words.Command.{Command}
-use Rattle.msl_run.specs.declared.words.Command.TheVariants.{Seq, Rounds, Check}
+use Rattle.msl_demo.specs.declared.script.TheConstants.{DEMO_NEED}
+use Rattle.msl_demo_laws.specs.Demo.{DemoGives}
+use Rattle.msl_words.specs.declared.command_line.Command.{Command}
+use Rattle.msl_words.specs.declared.command_line.Command.TheVariants.{Seq, Rounds, Check, Demo}
 use Rattle.msl_run.specs.declared.status.Status.{Status}
-use Rattle.msl_run.specs.declared.status.Status.TheVariants.{Done, Usage, Library, ScriptLong, Script as Refused, Stream as Faulted, Read, Write, Memory}
-
--- ---- the words
-
--- a word that may stand for a file: it isn't empty and doesn't begin with '-'
-abbrev pub is_operand : List ℕ → Bool
-is_operand [] = false
-is_operand (c ∷ cs) = not (c == 45)
-
--- the command that a word is, on a file
-abbrev pub command_on : List ℕ → List ℕ → Option Command
-command_on word file =
-    if bytes_eq word (codes "seq") then Some (Seq file)
-    else if bytes_eq word (codes "rounds") then Some (Rounds file)
-    else if bytes_eq word (codes "check") then Some (Check file)
-    else None
-
--- the command that the words are
-abbrev pub command : List (List ℕ) → Option Command
-command (word ∷ file ∷ []) = if is_operand file then command_on word file else None
-command _ = None
+use Rattle.msl_run.specs.declared.status.Status.TheVariants.{Done, Usage, Library, ScriptLong, Script as Refused, Need, Stream as Faulted, Read, Write, Memory}
 
 -- ---- a script
 
@@ -54,21 +35,45 @@ Runs means s e status = RanTold (means s) e status
 abbrev pub check_text : Script → List ℕ
 check_text s = text_of (script_bits s) ++ (codes "# need " ++ (decimal (need s) ++ 10 ∷ []))
 
--- A script of which this was written; after a fault of writing it is a beginning.
-abbrev pub Wrote : Script → Option (List ℕ) → Option (List ℕ) → Status → Type 0
-Wrote s held now Done = Appends held now (check_text s)
-Wrote s held now Write = AppendsFront held now (check_text s)
-Wrote s held now Memory = now ≡ held
-Wrote s held now Usage = ⊥
-Wrote s held now Library = ⊥
-Wrote s held now ScriptLong = ⊥
-Wrote s held now (Refused kind at) = ⊥
-Wrote s held now (Faulted f) = ⊥
-Wrote s held now Read = ⊥
+-- A text that is such was written; after a fault of writing a beginning of one.
+abbrev pub Wrote : (List ℕ → Type 0) → Option (List ℕ) → Option (List ℕ) → Status → Type 0
+Wrote P held now Done = (text : List ℕ) × P text × Appends held now text
+Wrote P held now Write = (text : List ℕ) × P text × AppendsFront held now text
+Wrote P held now Memory = now ≡ held
+Wrote P held now Usage = ⊥
+Wrote P held now Library = ⊥
+Wrote P held now ScriptLong = ⊥
+Wrote P held now (Refused kind at) = ⊥
+Wrote P held now (Need need have) = ⊥
+Wrote P held now (Faulted f) = ⊥
+Wrote P held now Read = ⊥
 
--- `check` over a script: nothing is read
+-- the same, and nothing was read
+abbrev pub Writes : (List ℕ → Type 0) → Ends → Status → Type 0
+Writes P e status = (e.left_now ≡ e.left) × Wrote P e.held e.held_now status
+
+-- `check` over a script
 abbrev pub Checks : Script → Ends → Status → Type 0
-Checks s e status = (e.left_now ≡ e.left) × Wrote s e.held e.held_now status
+Checks s = Writes (λ text. text ≡ check_text s)
+
+-- `demo` with so many records
+abbrev pub Demonstrates : ℕ → Ends → Status → Type 0
+Demonstrates records = Writes (DemoGives records)
+
+-- ---- how many processes there are
+
+-- what is said where there are as many as are needed; else the answer is Need, and nothing was read or written
+abbrev pub WithNeed : ℕ → ℕ → (Ends → Status → Type 0) → Ends → Status → Type 0
+WithNeed needed have says e status = MatchBool (nat_le needed have) (says e status) ((status ≡ Need needed have) × IsUntouched e)
+
+-- the same of a script
+abbrev pub By : ℕ → (Script → Ends → Status → Type 0) → Script → Ends → Status → Type 0
+By have says s = WithNeed (need s) have (says s)
+
+-- The same where a number was given, which isn't 0.
+abbrev pub ByGiven : ℕ → (Script → Ends → Status → Type 0) → Script → Ends → Status → Type 0
+ByGiven zero says s e status = says s e status
+ByGiven (suc k) says s e status = By (suc k) says s e status
 
 -- ---- the script of a file
 --
@@ -89,24 +94,39 @@ OfText says text e status =
 abbrev pub GaveUp : Ends → Status → Type 0
 GaveUp e status = ((status ≡ Library) ⊎ (status ≡ Memory)) × IsUntouched e
 
+-- memory ran out before anything was read or written
+abbrev pub Starved : Ends → Status → Type 0
+Starved e status = (status ≡ Memory) × IsUntouched e
+
 -- what is said of a file, by its text; where the library doesn't tell that, it is said of some text
 abbrev pub OfFile : (Script → Ends → Status → Type 0) → Option (List ℕ) → Ends → Status → Type 0
 OfFile says file e status = GaveUp e status ⊎ ((text : List ℕ) × FileIs file text × OfText says text e status)
 
 -- ---- a command
 
-abbrev pub IsCheck : Option Command → Type 0
-IsCheck (Some (Check name)) = ⊤
-IsCheck (Some (Seq name)) = ⊥
-IsCheck (Some (Rounds name)) = ⊥
-IsCheck None = ⊥
+-- it reads no records
+abbrev pub ReadsNothing : Option Command → Type 0
+ReadsNothing None = ⊤
+ReadsNothing (Some (Seq name)) = ⊥
+ReadsNothing (Some (Rounds name have)) = ⊥
+ReadsNothing (Some (Check name have)) = ⊤
+ReadsNothing (Some (Demo records have)) = ⊤
+
+-- it fetches no script
+abbrev pub FetchesNothing : Option Command → Type 0
+FetchesNothing None = ⊤
+FetchesNothing (Some (Seq name)) = ⊥
+FetchesNothing (Some (Rounds name have)) = ⊥
+FetchesNothing (Some (Check name have)) = ⊥
+FetchesNothing (Some (Demo records have)) = ⊤
 
 -- what is said of the command that the words are; there is none exactly at Usage
 abbrev pub OfCommand : Option Command → (List ℕ → Option (List ℕ)) → Ends → Status → Type 0
 OfCommand None file e status = (status ≡ Usage) × IsUntouched e
 OfCommand (Some (Seq name)) file e status = OfFile (Runs SeqRuns) (file name) e status
-OfCommand (Some (Rounds name)) file e status = OfFile (Runs RunsMain) (file name) e status
-OfCommand (Some (Check name)) file e status = OfFile Checks (file name) e status
+OfCommand (Some (Rounds name have)) file e status = OfFile (By have (Runs RunsMain)) (file name) e status
+OfCommand (Some (Check name have)) file e status = OfFile (ByGiven have Checks) (file name) e status
+OfCommand (Some (Demo records have)) file e status = Starved e status ⊎ WithNeed DEMO_NEED have (Demonstrates records) e status
 
 -- no file was asked for but this, and that at most once
 abbrev pub IsAsked : List ℕ → List (List ℕ) → List (List ℕ) → Type 0
@@ -116,16 +136,23 @@ IsAsked name before now = (now ≡ before) ⊎ (now ≡ before ++ name ∷ [])
 abbrev pub AsksFor : Option Command → List (List ℕ) → List (List ℕ) → Type 0
 AsksFor None before now = now ≡ before
 AsksFor (Some (Seq name)) before now = IsAsked name before now
-AsksFor (Some (Rounds name)) before now = IsAsked name before now
-AsksFor (Some (Check name)) before now = IsAsked name before now
+AsksFor (Some (Rounds name have)) before now = IsAsked name before now
+AsksFor (Some (Check name have)) before now = IsAsked name before now
+AsksFor (Some (Demo records have)) before now = now ≡ before
 
--- a file that is told, is not too long and reads as a script
-abbrev pub HasScript : Option (List ℕ) → Type 0
-HasScript file = (text : List ℕ) × (s : Script) × (file ≡ Some text) × (length text ≤ MOST_SCRIPT_BYTES) × ReadsAs text s
+-- a file that is told, is not too long and reads as a script of which this holds
+abbrev pub HasScript : (Script → Type 0) → Option (List ℕ) → Type 0
+HasScript P file = (text : List ℕ) × (s : Script) × (file ≡ Some text) × (length text ≤ MOST_SCRIPT_BYTES) × ReadsAs text s × P s
 
--- the command is on such a file
+-- there are as many processes as it needs, where a number was given, which isn't 0
+abbrev pub IsServed : ℕ → Script → Type 0
+IsServed zero s = ⊤
+IsServed (suc k) s = need s ≤ suc k
+
+-- the command is on a file with a script, or is the demo, and has the processes that it asks for
 abbrev pub IsRunnable : Option Command → (List ℕ → Option (List ℕ)) → Type 0
 IsRunnable None file = ⊥
-IsRunnable (Some (Seq name)) file = HasScript (file name)
-IsRunnable (Some (Rounds name)) file = HasScript (file name)
-IsRunnable (Some (Check name)) file = HasScript (file name)
+IsRunnable (Some (Seq name)) file = HasScript (λ s. ⊤) (file name)
+IsRunnable (Some (Rounds name have)) file = HasScript (λ s. need s ≤ have) (file name)
+IsRunnable (Some (Check name have)) file = HasScript (IsServed have) (file name)
+IsRunnable (Some (Demo records have)) file = DEMO_NEED ≤ have

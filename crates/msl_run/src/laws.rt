@@ -2,15 +2,16 @@
 
 ghost use Rattle.msl_run.specs.Causes.{count, Rises};
 ghost use Rattle.msl_run.specs.Statuses.{IsComplete};
-ghost use Rattle.msl_run.specs.TopCall.{command, IsRunnable};
+ghost use Rattle.msl_run.specs.TopCall.{IsRunnable};
+ghost use Rattle.msl_words.specs.Words.{command};
 
 use crate::{Status, Words, muesli_plain};
 use msl_io::{Library, Sink, SteadySource};
 use std::alloc::Global;
 use std::thread::Threads;
 
-/// Over a source that never fails, a script that is told ends as its stream does, or memory ran out,
-/// unless the library or the sink counts a fault.
+/// Over a source that never fails, a script that is told, with as many processes as are asked for, ends as its stream
+/// does, or memory ran out, unless the library or the sink counts a fault.
 pub fn steady_source<R: Threads + Sync, L: Library, K: Sink, E: Sink>(
     rt: &R,
     alloc: Global,

@@ -47,6 +47,7 @@ fn message(status: &Status) -> Piece
         Status::Library => line(b"cannot read script"),
         Status::ScriptLong => line(b"script too long"),
         Status::Script(kind, at) => script_message(*kind, *at),
+        Status::Need { need, have } => need_message(*need, *have),
         Status::Stream(fault) => fault_message(*fault),
         Status::Read => line(b"read fault"),
         Status::Write => line(b"write fault"),
@@ -62,6 +63,18 @@ fn script_message(kind: Kind, at: u32) -> Piece
     piece.push_bytes(kind_text(kind));
     piece.push_bytes(b" at ");
     piece.push_decimal(u64::from(at));
+    piece.push(b'\n');
+    piece
+}
+
+fn need_message(need: u64, have: u32) -> Piece
+    ensures { result ≡ message_of (Status.Need need have) }
+{
+    let mut piece = Piece::new();
+    piece.push_bytes(b"muesli: need ");
+    piece.push_decimal(need);
+    piece.push_bytes(b" processes, have ");
+    piece.push_decimal(u64::from(have));
     piece.push(b'\n');
     piece
 }

@@ -20,6 +20,13 @@ pub enum Status {
     /// The text is no script: the first test that fails, and the place in bytes at which the token begins that it
     /// names.
     Script(Kind, u32),
+    /// The script needs more processes than there are.
+    Need {
+        /// How many it needs.
+        need: u64,
+        /// How many there are.
+        have: u32,
+    },
     /// The stream ended with this fault.
     Stream(Fault),
     /// The source failed.
@@ -47,14 +54,14 @@ impl Status {
     }
 
     /// The exit status of the program: 0 where all is done, 1 after a fault of the stream, 2 where nothing was run
-    /// since the words or the script are refused, 3 where the outside failed, 4 where memory ran out.
+    /// since the words, the script or its need are refused, 3 where the outside failed, 4 where memory ran out.
     pub fn code(&self) -> u8
         ensures { result ≡ code_of self.now }
     {
         match self {
             Status::Done => 0,
             Status::Stream(_) => 1,
-            Status::Usage | Status::ScriptLong | Status::Script(..) => 2,
+            Status::Usage | Status::ScriptLong | Status::Script(..) | Status::Need { .. } => 2,
             Status::Library | Status::Read | Status::Write => 3,
             Status::Memory => 4,
         }

@@ -4,6 +4,8 @@ pub use Rattle.msl_program.specs.Promises
 pub use Rattle.msl_program.specs.ProgramPromise
 pub use Rattle.msl_program.specs.ScriptPromise
 pub use Rattle.msl_program.specs.Need
+pub use Rattle.msl_plan.specs.Plans
+pub use Rattle.msl_plan.specs.PlanLaws
 pub use Rattle.msl_program.specs.Data
 pub use Rattle.msl_program.specs.Divide
 pub use Rattle.msl_program.specs.Filters

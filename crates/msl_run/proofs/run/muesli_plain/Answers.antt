@@ -1,6 +1,6 @@
 use Rattle.msl_run.specs.Causes.{count}
 use Rattle.msl_stage.specs.Endings.{ends}
-use Rattle.msl_run.specs.TopCall.{command}
+use Rattle.msl_words.specs.Words.{command}
 use Rattle.msl_run.proofs.Scripts.{complete}
 use Rattle.msl_run.proofs.run.muesli_plain.Goals as goal
 

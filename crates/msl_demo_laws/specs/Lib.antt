@@ -1,0 +1,4 @@
+pub mod Demo
+pub mod Script
+pub mod Results
+pub mod Laws

@@ -1,0 +1,4 @@
+pub mod Plans
+pub mod Planning
+pub mod PlanLaws
+pub mod Examples

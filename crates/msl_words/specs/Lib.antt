@@ -1,0 +1,4 @@
+pub mod Grammar
+pub mod Progress
+pub mod Verbs
+pub mod Words
